@@ -1,0 +1,2 @@
+-- Laws of the ones of longs.
+pub mod Ones

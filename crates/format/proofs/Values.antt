@@ -1,0 +1,298 @@
+-- The stored numbers stand for the values. Assumes nothing.
+use mathlib.Core.Path.{_≡_, refl, sym, ap, ap₂, _∙_, subst}
+use mathlib.Core.Bool.{Bool, true, false, cond, not}
+use mathlib.Core.List.{List, [], _∷_, _++_, map}
+use Prim.Native.Nat.{ℕ, zero, suc, _+_, _-_, _*_, _/_, _%_, _^_, _<_, _≤_, _∣_}
+use native.Mathlib.Nat.{dvd-refl, dvd-zero, dvd-trans, dvd-add, dvd-sub, dvd-mod-iff, one-dvd, mul-div-cancel', mod-lt, zero-lt-suc, le-trans, add-suc, suc-add}
+use native.Mathlib.Omega.{arith}
+use lib.Dec.{T, eqb, leb, ltb, leb→le, le→leb, nleb→lt}
+use lib.IntN.{ℤ, pos, negsuc, negℤ, natAbs, subℕ, _+ℤ_, _-ℤ_, +ℤ-comm, -ℤ-+ℤ-cancel}
+use lib.Signed.{leZ, nonNeg, pos-natAbs}
+use borrow.Author.Tests.{lt-ltb, le-ltb}
+use Rattle.format.specs.Values.{leastOf, mostOf, smallest, greatest, over, gcdIn, gcd, gcdOf, divisor, stored, valueAt, spread, bitsIn, bitLength, width}
+use Rattle.format.specs.Pairs.{Below, Each}
+use native.Mathlib.Nat.{pow-zero, pow-succ', add-comm, lt-of-le-of-lt, le-div-iff-mul-le, div-mul-le-self}
+use Prim.Native.Nat.{zero-le, suc-le-suc}
+use lib.Dec.{lit<}
+use lib.IntN.{+ℤ-assoc, +ℤ-invl, +ℤ-idl}
+use Rattle.format.proofs.Cases.{below-or}
+
+-- ---- each of a list
+
+pub each-map : {P Q : ℤ → Type 0} → ((v : ℤ) → P v → Q v) → (vs : List ℤ) → Each P vs → Each Q vs
+each-map f [] t = tt
+each-map f (v ∷ vs) t = (f v (t .0), each-map f vs (t .1))
+
+map-same : (f : ℤ → ℤ) (vs : List ℤ) → Each (λ v. f v ≡ v) vs → map f vs ≡ vs
+map-same f [] t = refl
+map-same f (v ∷ vs) t = ap₂ {C = List ℤ} (λ (a : ℤ) (l : List ℤ). a ∷ l) (t .0) (map-same f vs (t .1))
+
+-- ---- the order
+
+leZ-refl : (a : ℤ) → T (leZ a a)
+leZ-refl (pos a) = le→leb a a (omega arith)
+leZ-refl (negsuc a) = le→leb a a (omega arith)
+
+leZ-trans : (a b c : ℤ) → T (leZ a b) → T (leZ b c) → T (leZ a c)
+leZ-trans (pos a) (pos b) (pos c) h k = le→leb a c (le-trans (leb→le a b h) (leb→le b c k))
+leZ-trans (pos a) (pos b) (negsuc c) h k = k
+leZ-trans (pos a) (negsuc b) c h k = absurd h
+leZ-trans (negsuc a) b (pos c) h k = tt
+leZ-trans (negsuc a) (pos b) (negsuc c) h k = absurd k
+leZ-trans (negsuc a) (negsuc b) (negsuc c) h k = le→leb c a (le-trans (leb→le c b k) (leb→le b a h))
+
+leZ-flip : (a b : ℤ) → T (not (leZ a b)) → T (leZ b a)
+leZ-flip (pos a) (pos b) h = le→leb b a (omega (arith, nleb→lt a b h))
+leZ-flip (pos a) (negsuc b) h = tt
+leZ-flip (negsuc a) (pos b) h = h
+leZ-flip (negsuc a) (negsuc b) h = le→leb a b (omega (arith, nleb→lt b a h))
+
+-- ---- the smallest
+
+module _ (m v : ℤ) where
+  lesser : ℤ
+  lesser = cond (leZ m v) m v
+
+  lesser-left : T (leZ lesser m)
+  unfolding lesser
+  lesser-left = go (leZ m v) (λ t. leZ-flip m v t)
+    where
+      go : (q : Bool) → (T (not q) → T (leZ v m)) → T (leZ (cond q m v) m)
+      go true f = leZ-refl m
+      go false f = f tt
+
+  lesser-right : T (leZ lesser v)
+  unfolding lesser
+  lesser-right = go (leZ m v) (λ t. t)
+    where
+      go : (q : Bool) → (T q → T (leZ m v)) → T (leZ (cond q m v) v)
+      go true f = f tt
+      go false f = leZ-refl v
+
+pub least-first : (m : ℤ) (vs : List ℤ) → T (leZ (leastOf m vs) m)
+unfolding leastOf lesser
+least-first m [] = leZ-refl m
+least-first m (v ∷ vs) = leZ-trans (leastOf (lesser m v) vs) (lesser m v) m (least-first (lesser m v) vs) (lesser-left m v)
+
+pub least-each : (m : ℤ) (vs : List ℤ) → Each (λ v. T (leZ (leastOf m vs) v)) vs
+unfolding leastOf lesser
+least-each m [] = tt
+least-each m (v ∷ vs) =
+    (leZ-trans (leastOf (lesser m v) vs) (lesser m v) v (least-first (lesser m v) vs) (lesser-right m v), least-each (lesser m v) vs)
+
+-- what holds of each value holds of the smallest
+pub least-has : (P : ℤ → Type 0) (m : ℤ) (vs : List ℤ) → P m → Each P vs → P (leastOf m vs)
+unfolding leastOf
+least-has P m [] h t = h
+least-has P m (v ∷ vs) h t = least-has P (cond (leZ m v) m v) vs (go (leZ m v)) (t .1)
+  where
+    go : (q : Bool) → P (cond q m v)
+    go true = h
+    go false = t .0
+
+pub most-has : (P : ℤ → Type 0) (m : ℤ) (vs : List ℤ) → P m → Each P vs → P (mostOf m vs)
+unfolding mostOf
+most-has P m [] h t = h
+most-has P m (v ∷ vs) h t = most-has P (cond (leZ m v) v m) vs (go (leZ m v)) (t .1)
+  where
+    go : (q : Bool) → P (cond q v m)
+    go true = t .0
+    go false = h
+
+-- ---- the difference
+
+sub-nonNeg : (a b : ℕ) → b ≤ a → T (nonNeg (subℕ a b))
+sub-nonNeg a b h = rw (le-ltb a b h) tt
+
+diff-nonNeg : (m v : ℤ) → T (leZ m v) → T (nonNeg (v -ℤ m))
+diff-nonNeg (pos zero) (pos b) h = tt
+diff-nonNeg (pos (suc a)) (pos b) h = sub-nonNeg b (suc a) (leb→le (suc a) b h)
+diff-nonNeg (pos a) (negsuc b) h = absurd h
+diff-nonNeg (negsuc a) (pos b) h = tt
+diff-nonNeg (negsuc a) (negsuc b) h = sub-nonNeg (suc a) (suc b) (omega (arith, leb→le b a h))
+
+-- the smallest and the difference make the value
+pub over-back : (m v : ℤ) → T (leZ m v) → m +ℤ pos (over m v) ≡ v
+over-back m v h = ap (λ (z : ℤ). m +ℤ z) (pos-natAbs (v -ℤ m) (diff-nonNeg m v h)) ∙ +ℤ-comm m (v -ℤ m) ∙ -ℤ-+ℤ-cancel v m
+
+-- ---- the divisor
+
+gcd-divides : (f a b : ℕ) → b < f → (gcdIn f a b ∣ a) × (gcdIn f a b ∣ b)
+unfolding gcdIn
+gcd-divides zero a b h = absurd (omega arith)
+gcd-divides (suc f) a zero h = (dvd-refl a, dvd-zero a)
+gcd-divides (suc f) a (suc b) h =
+    let r : (gcdIn f (suc b) (a % suc b) ∣ suc b) × (gcdIn f (suc b) (a % suc b) ∣ a % suc b) =
+    gcd-divides f (suc b) (a % suc b) (omega (arith, mod-lt a (zero-lt-suc b))) in
+    (dvd-mod-iff (gcdIn f (suc b) (a % suc b)) (r .0) .0 (r .1), r .0)
+
+gcdOf-first : (g : ℕ) (vs : List ℤ) → gcdOf g vs ∣ g
+unfolding gcdOf gcd
+gcdOf-first g [] = dvd-refl g
+gcdOf-first g (v ∷ vs) =
+    dvd-trans (gcdOf (gcd g (natAbs v)) vs) (gcdOf-first (gcd g (natAbs v)) vs) (gcd-divides (suc (natAbs v)) g (natAbs v) (omega arith) .0)
+
+pub gcdOf-each : (g : ℕ) (vs : List ℤ) → Each (λ v. gcdOf g vs ∣ natAbs v) vs
+unfolding gcdOf gcd
+gcdOf-each g [] = tt
+gcdOf-each g (v ∷ vs) = (
+  dvd-trans (gcdOf (gcd g (natAbs v)) vs) (gcdOf-first (gcd g (natAbs v)) vs) (gcd-divides (suc (natAbs v)) g (natAbs v) (omega arith) .1),
+  gcdOf-each (gcd g (natAbs v)) vs,
+)
+
+dvd-subℕ : (d a b : ℕ) → d ∣ a → d ∣ b → d ∣ natAbs (subℕ a b)
+dvd-subℕ d a b ha hb =
+    below-or a b
+    (λ h. rw (lt-ltb a b h) (subst (λ (n : ℕ). d ∣ n) (the-gap h) (dvd-sub d hb ha)))
+    (λ h. rw (le-ltb a b h) (dvd-sub d ha hb))
+  where
+    the-gap : a < b → b - a ≡ suc (b - suc a)
+    the-gap h = omega arith
+
+pub dvd-over : (d : ℕ) (m v : ℤ) → d ∣ natAbs m → d ∣ natAbs v → d ∣ over m v
+dvd-over d (pos zero) (pos b) hm hv = dvd-add d hv (dvd-zero d)
+dvd-over d (pos (suc a)) (pos b) hm hv = dvd-subℕ d b (suc a) hv hm
+dvd-over d (pos zero) (negsuc b) hm hv = dvd-subℕ d zero (suc b) hm hv
+dvd-over d (pos (suc a)) (negsuc b) hm hv = subst (λ (n : ℕ). d ∣ n) (the-sum) (dvd-add d hv hm)
+  where
+    the-sum : suc b + suc a ≡ suc (suc (b + a))
+    the-sum = omega arith
+dvd-over d (negsuc a) (pos b) hm hv = dvd-add d hv hm
+dvd-over d (negsuc a) (negsuc b) hm hv = dvd-subℕ d (suc a) (suc b) hm hv
+
+-- ---- the values come back
+
+map-map : (f : ℕ → ℤ) (h : ℤ → ℕ) (vs : List ℤ) → map f (map h vs) ≡ map (λ v. f (h v)) vs
+map-map f h [] = refl
+map-map f h (v ∷ vs) = ap {B = List ℤ} (λ (l : List ℤ). f (h v) ∷ l) (map-map f h vs)
+
+pub smallest-each : (vs : List ℤ) → Each (λ v. T (leZ (smallest vs) v)) vs
+unfolding smallest
+smallest-each [] = tt
+smallest-each (v ∷ vs) = (least-first v vs, least-each v vs)
+
+smallest-has : (P : ℤ → Type 0) (v : ℤ) (vs : List ℤ) → Each P (v ∷ vs) → P (smallest (v ∷ vs))
+unfolding smallest
+smallest-has P v vs t = least-has P v vs (t .0) (t .1)
+
+divides-one : (v : ℤ) (vs : List ℤ) (u : ℤ) → gcdOf 0 (v ∷ vs) ∣ natAbs u → divisor (v ∷ vs) ∣ over (smallest (v ∷ vs)) u
+unfolding divisor
+divides-one v vs u h = go (eqb (spread (v ∷ vs)) 0)
+  where
+    go : (q : Bool) → cond q 1 (gcdOf 0 (v ∷ vs)) ∣ over (smallest (v ∷ vs)) u
+    go true = one-dvd (over (smallest (v ∷ vs)) u)
+    go false =
+        dvd-over (gcdOf 0 (v ∷ vs)) (smallest (v ∷ vs)) u
+        (smallest-has (λ x. gcdOf 0 (v ∷ vs) ∣ natAbs x) v vs (gcdOf-each 0 (v ∷ vs))) h
+
+-- the divisor divides each difference from the smallest
+pub divides-each : (vs : List ℤ) → Each (λ v. divisor vs ∣ over (smallest vs) v) vs
+divides-each [] = tt
+divides-each (v ∷ vs) = each-map (divides-one v vs) (v ∷ vs) (gcdOf-each 0 (v ∷ vs))
+
+each-two : {P Q R : ℤ → Type 0} → ((v : ℤ) → P v → Q v → R v) → (vs : List ℤ) → Each P vs → Each Q vs → Each R vs
+each-two f [] s t = tt
+each-two f (v ∷ vs) s t = (f v (s .0) (t .0), each-two f vs (s .1) (t .1))
+
+value-back : (m : ℤ) (g : ℕ) (v : ℤ) → T (leZ m v) → g ∣ over m v → valueAt m g (over m v / g) ≡ v
+unfolding valueAt
+value-back m g v h d = rw (mul-div-cancel' g d) (over-back m v h)
+
+pub values-back : (vs : List ℤ) → map (valueAt (smallest vs) (divisor vs)) (stored vs) ≡ vs
+unfolding stored
+values-back vs =
+    map-map (valueAt (smallest vs) (divisor vs)) (λ v. over (smallest vs) v / divisor vs) vs
+    ∙ map-same (λ v. valueAt (smallest vs) (divisor vs) (over (smallest vs) v / divisor vs)) vs
+    (each-two (value-back (smallest vs) (divisor vs)) vs (smallest-each vs) (divides-each vs))
+
+-- ---- the stored numbers fit the width
+
+bits-in : (f q : ℕ) → q ≤ f → q < 2 ^ bitsIn f q
+unfolding bitsIn
+bits-in zero q h = omega (arith, pow-zero 2)
+bits-in (suc f) zero h = lit< tt
+bits-in (suc f) (suc q) h = omega (arith, bits-in f (suc q / 2) (omega arith), pow-succ' 2 (bitsIn f (suc q / 2)))
+
+pub bit-length : (q : ℕ) → q < 2 ^ bitLength q
+unfolding bitLength
+bit-length q = bits-in q q (omega arith)
+
+bits-le : (f q k : ℕ) → q < 2 ^ k → bitsIn f q ≤ k
+unfolding bitsIn
+bits-le zero q k h = zero-le
+bits-le (suc f) zero k h = zero-le
+bits-le (suc f) (suc q) zero h = absurd (omega (arith, pow-zero 2))
+bits-le (suc f) (suc q) (suc k) h = suc-le-suc (bits-le f (suc q / 2) k (omega (arith, pow-succ' 2 k)))
+
+-- the least such width
+pub bit-length-le : (q k : ℕ) → q < 2 ^ k → bitLength q ≤ k
+unfolding bitLength
+bit-length-le q k h = bits-le q q k h
+
+pub over-add : (a b c : ℤ) → T (leZ a b) → T (leZ b c) → over a c ≡ over a b + over b c
+over-add a b c h k =
+    ap natAbs (sym (the-sum a b c) ∙ ap₂ _+ℤ_ (sym (pos-natAbs (c -ℤ b) (diff-nonNeg b c k))) (sym (pos-natAbs (b -ℤ a) (diff-nonNeg a b h))))
+    ∙ add-comm (over b c) (over a b)
+  where
+    the-sum : (a b c : ℤ) → (c -ℤ b) +ℤ (b -ℤ a) ≡ c -ℤ a
+    the-sum a b c =
+        +ℤ-assoc c (negℤ b) (b +ℤ negℤ a)
+        ∙ ap (λ (z : ℤ). c +ℤ z) (sym (+ℤ-assoc (negℤ b) b (negℤ a)) ∙ ap (λ (z : ℤ). z +ℤ negℤ a) (+ℤ-invl b) ∙ +ℤ-idl (negℤ a))
+
+module _ (m v : ℤ) where
+  greater : ℤ
+  greater = cond (leZ m v) v m
+
+  greater-left : T (leZ m greater)
+  unfolding greater
+  greater-left = go (leZ m v) (λ t. t)
+    where
+      go : (q : Bool) → (T q → T (leZ m v)) → T (leZ m (cond q v m))
+      go true f = f tt
+      go false f = leZ-refl m
+
+  greater-right : T (leZ v greater)
+  unfolding greater
+  greater-right = go (leZ m v) (λ t. leZ-flip m v t)
+    where
+      go : (q : Bool) → (T (not q) → T (leZ v m)) → T (leZ v (cond q v m))
+      go true f = leZ-refl v
+      go false f = f tt
+
+most-first : (m : ℤ) (vs : List ℤ) → T (leZ m (mostOf m vs))
+unfolding mostOf greater
+most-first m [] = leZ-refl m
+most-first m (v ∷ vs) = leZ-trans m (greater m v) (mostOf (greater m v) vs) (greater-left m v) (most-first (greater m v) vs)
+
+most-each : (m : ℤ) (vs : List ℤ) → Each (λ v. T (leZ v (mostOf m vs))) vs
+unfolding mostOf greater
+most-each m [] = tt
+most-each m (v ∷ vs) =
+    (leZ-trans v (greater m v) (mostOf (greater m v) vs) (greater-right m v) (most-first (greater m v) vs), most-each (greater m v) vs)
+
+greatest-each : (vs : List ℤ) → Each (λ v. T (leZ v (greatest vs))) vs
+unfolding greatest
+greatest-each [] = tt
+greatest-each (v ∷ vs) = (most-first v vs, most-each v vs)
+
+over-le : (a c b : ℤ) → T (leZ a b) → T (leZ b c) → over a b ≤ over a c
+over-le a c b h k = omega (arith, over-add a b c h k)
+
+-- no value is further from the smallest than the greatest
+spread-each : (vs : List ℤ) → Each (λ v. over (smallest vs) v ≤ spread vs) vs
+unfolding spread
+spread-each vs =
+    each-two (over-le (smallest vs) (greatest vs)) vs (smallest-each vs) (greatest-each vs)
+
+below-map : (b : ℕ) (f : ℤ → ℕ) (vs : List ℤ) → Each (λ v. f v < b) vs → Below b (map f vs)
+below-map b f [] t = tt
+below-map b f (v ∷ vs) t = (t .0, below-map b f vs (t .1))
+
+pub stored-below : (vs : List ℤ) → zero < divisor vs → Below (2 ^ width vs) (stored vs)
+unfolding stored width
+stored-below vs h =
+    below-map (2 ^ bitLength (spread vs / divisor vs)) (λ v. over (smallest vs) v / divisor vs) vs
+    (each-map (λ v t. lt-of-le-of-lt (div-le-div t h) (bit-length (spread vs / divisor vs))) vs (spread-each vs))
+  where
+    div-le-div : {a b g : ℕ} → a ≤ b → zero < g → a / g ≤ b / g
+    div-le-div {a} {b} {g} k j = le-div-iff-mul-le j .1 (le-trans (div-mul-le-self a g) k)

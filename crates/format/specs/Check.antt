@@ -1,0 +1,65 @@
+-- The check (7 to 11, then 13) and the full reading (7 to 11, 12, 13): decode the pair list, ask the writer's definition, compare
+-- the bytes. Document 01, "Refusal numbers": DAMAGED exactly when the bytes are no column of any pair list. Assumes nothing.
+use Prim.Native.Nat.{ℕ}
+use mathlib.Core.Bool.{Bool, true, false, _&&_}
+use mathlib.Core.List.{List, [], _∷_, _++_, map}
+use lib.ListN.{length, drop}
+use lib.Dec.{leb}
+use lib.IntN.{ℤ}
+use Rattle.format.specs.Refusals.{Outcome, done, refused, andThen, need, BUFFER, DAMAGED}
+use Rattle.format.specs.Bytes.{same}
+use Rattle.format.specs.IdsRead.{readRuns, idsOf}
+use Rattle.format.specs.Bits.{unpacked}
+use Rattle.format.specs.Values.{fits64}
+use Rattle.format.specs.Pairs.{Pairs}
+use Rattle.format.specs.Writer.{write}
+use Rattle.format.specs.Opening.{Opened, openColumn, idPart, valuePart, valueIn}
+
+-- the one pair list whose column the bytes may be
+unfoldable pub pairsIn : List ℕ → Opened → Pairs
+pairsIn bytes c =
+    let is : List ℕ = idsOf (readRuns (c .head .idBytes) (c .head .power) (idPart bytes c)) in
+    record { ids = is; values = map (valueIn (c .head)) (unpacked (c .head .bits) (length is) (valuePart bytes c)) }
+
+unfoldable pub allFit : List ℤ → Bool
+allFit [] = true
+allFit (v ∷ vs) = fits64 v && allFit vs
+
+-- these bytes are what the writer writes
+unfoldable pub isDone : Outcome (List ℕ) → List ℕ → Bool
+isDone (done out) bytes = same out bytes
+isDone (refused why w) bytes = false
+
+unfoldable pub isColumn : List ℕ → ℕ → Pairs → Bool
+isColumn bytes p q = allFit (q .values) && isDone (write p (q .ids) (q .values) (length bytes)) bytes
+
+unfoldable pub accepted : List ℕ → Opened → Outcome Pairs
+accepted bytes c =
+    let q : Pairs = pairsIn bytes c in
+    need (isColumn bytes (c .head .power) q) DAMAGED 0 (done q)
+
+-- success hands back n
+unfoldable pub check : List ℕ → Outcome ℕ
+check bytes = andThen (openColumn bytes) (λ c. andThen (accepted bytes c) (λ q. done (c .head .count)))
+
+-- into buffers of so many ids and values
+unfoldable pub reading : List ℕ → ℕ → ℕ → Outcome Pairs
+reading bytes idRoom valueRoom =
+    andThen (openColumn bytes) (λ c.
+    need (leb (c .head .count) idRoom && leb (c .head .count) valueRoom) BUFFER (c .head .count)
+    (accepted bytes c))
+
+-- ---- the reading's reply and its buffers afterwards
+
+unfoldable pub readReply : Outcome Pairs → Outcome ℕ
+readReply (done q) = done (length (q .ids))
+readReply (refused why w) = refused why w
+
+-- success changes exactly the first n places, and a refusal none
+unfoldable pub idsAfter : Outcome Pairs → List ℕ → List ℕ
+idsAfter (done q) ids = q .ids ++ drop (length (q .ids)) ids
+idsAfter (refused why w) ids = ids
+
+unfoldable pub valuesAfter : Outcome Pairs → List ℤ → List ℤ
+valuesAfter (done q) vs = q .values ++ drop (length (q .values)) vs
+valuesAfter (refused why w) vs = vs

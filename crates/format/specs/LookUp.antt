@@ -1,0 +1,112 @@
+-- Document 01, "The look-up, step by step": the steps fix the answer for any bytes, and the first step that fails decides it.
+-- Assumes nothing.
+use Prim.Native.Nat.{ℕ, zero, suc, _+_, _-_, _*_, _/_, _%_, _^_, min}
+use mathlib.Core.Bool.{Bool, true, false, cond, not, _&&_, _||_}
+use mathlib.Core.List.{List, [], _∷_}
+use lib.ListN.{drop}
+use lib.Dec.{leb, ltb, eqb}
+use lib.Count.{onesIn}
+use lib.IntN.{ℤ}
+use Rattle.format.specs.Limits.{maxId, blockPlaces}
+use Rattle.format.specs.Refusals.{Outcome, done, refused, andThen, need, HEADER, LENGTH, ID, BROKEN}
+use Rattle.format.specs.Bytes.{lowAt, highAt}
+use Rattle.format.specs.Ids.{Entry, kindOf, byKind, rankBytes, blockBytes}
+use Rattle.format.specs.IdsRead.{shorts}
+use Rattle.format.specs.Values.{fits64}
+use Rattle.format.specs.Column.{Head}
+use Rattle.format.specs.Opening.{Opened, openColumn, headOk, lengthOk, idPart, valueOf}
+
+-- found (ordinal, value, words), or absent (words)
+pub data Look : Type 0 where
+  found : ℕ → ℤ → ℕ → Look
+  absent : ℕ → Look
+
+-- ---- within a block: steps 5 and 6
+
+-- where a place stands in a block: its index there and the words counted, nowhere with the words, or a failed step
+pub data Place : Type 0 where
+  inside : ℕ → ℕ → Place
+  nowhere : ℕ → Place
+  broken : Place
+
+-- sparse: scan to the first entry that is r or above, from index i on
+unfoldable pub scan : ℕ → ℕ → List ℕ → Place
+scan r i [] = nowhere 0
+scan r i (x ∷ xs) = cond (ltb x r) (scan r (suc i) xs) (cond (eqb x r) (inside i 0) (nowhere 0))
+
+-- the ones in k longs of the bitmap that starts at m, from long a on
+unfoldable pub onesFrom : List ℕ → ℕ → ℕ → ℕ → ℕ
+onesFrom s m zero a = 0
+onesFrom s m (suc k) a = onesIn 64 (lowAt 8 s (m + 8 * a)) + onesFrom s m k (suc a)
+
+-- the first long of the stride of place r, and the stride's rank, from the table at t; without ranks the block is one stride, rank 0
+unfoldable pub strideLong : ℕ → ℕ → ℕ
+strideLong p r = cond (eqb p 0) 0 (r / 2 ^ p * 2 ^ (p - 6))
+
+unfoldable pub strideRank : ℕ → List ℕ → ℕ → ℕ → ℕ
+strideRank p s t r = cond (eqb p 0) 0 (highAt 2 s (t + 2 * (r / 2 ^ p)))
+
+-- the place r in a dense block of c ids whose data start at t
+unfoldable pub denseAt : ℕ → List ℕ → ℕ → ℕ → ℕ → Place
+denseAt p s t c r =
+    let m : ℕ = t + rankBytes p in
+    let f : ℕ = strideLong p r in
+    let long : ℕ = lowAt 8 s (m + 8 * (r / 64)) in
+    let i : ℕ = strideRank p s t r + onesFrom s m (r / 64 - f) f + onesIn 64 (long % 2 ^ (r % 64)) in
+    cond (eqb (long / 2 ^ (r % 64) % 2) 0) (nowhere 1) (cond (ltb i c) (inside i (r / 64 - f + 1)) broken)
+
+unfoldable pub placeAt : ℕ → List ℕ → ℕ → ℕ → ℕ → Place
+placeAt p s t c r =
+    byKind (kindOf c) (scan r 0 (shorts c (drop t s))) (denseAt p s t c r) (inside r 0)
+
+-- ---- the steps
+
+-- A = L - 8J, where the jump entries start
+abbrev pub entriesAt : Head → ℕ
+entriesAt h = h .idBytes - 8 * h .jumpCount
+
+-- step 1: the ordinal and the start, both 0 if J = 0, else from entry min (b, J - 1) of the entries at a
+unfoldable pub entryAt : List ℕ → ℕ → ℕ → ℕ → Entry
+entryAt s a j b =
+    cond (eqb j 0) (0, 0) (lowAt 4 s (a + 8 * min b (j - 1)), lowAt 4 s (a + 8 * min b (j - 1) + 4))
+
+-- step 7
+unfoldable pub answer : List ℕ → Opened → ℕ → Place → Outcome Look
+answer bytes c o (inside i w) =
+    need (fits64 (valueOf bytes c (o + i))) BROKEN 0 (done (found (o + i) (valueOf bytes c (o + i)) w))
+answer bytes c o (nowhere w) = done (absent w)
+answer bytes c o broken = refused BROKEN 0
+
+-- steps 2 to 7, from an entry
+unfoldable pub fromEntry : List ℕ → Opened → ℕ → Entry → Outcome Look
+fromEntry bytes col id e =
+    let h : Head = col .head in
+    let s : List ℕ = idPart bytes col in
+    let b : ℕ = id / blockPlaces in
+    let k : ℕ = lowAt 2 s (e .1) in
+    let c : ℕ = lowAt 2 s (e .1 + 2) + 1 in
+    need (leb (e .1 + 4) (entriesAt h)) BROKEN 0
+    (need (eqb (h .jumpCount) 0 || leb b k) BROKEN 0
+    (cond (not (eqb k b)) (done (absent 0))
+    (need (leb (e .1 + blockBytes (h .power) c) (entriesAt h) && leb (e .0 + c) (h .count)) BROKEN 0
+    (answer bytes col (e .0) (placeAt (h .power) s (e .1 + 4) c (id % blockPlaces))))))
+
+-- steps 1 to 7
+unfoldable pub steps : List ℕ → Opened → ℕ → Outcome Look
+steps bytes c id =
+    fromEntry bytes c id (entryAt (idPart bytes c) (entriesAt (c .head)) (c .head .jumpCount) (id / blockPlaces))
+
+-- ---- the calls
+
+-- 14, then 7 to 11, then 15
+unfoldable pub lookUp : List ℕ → ℕ → Outcome Look
+lookUp bytes id = need (leb id maxId) ID 0 (andThen (openColumn bytes) (λ c. steps bytes c id))
+
+-- From a column that was opened before, or any numbers in its place: 14; 10 where they break a header rule; 11 where they do not
+-- fit these bytes; 15. (Not in document 01: docs/DECISIONS.md.)
+unfoldable pub lookUpIn : List ℕ → Opened → ℕ → Outcome Look
+lookUpIn bytes c id =
+    need (leb id maxId) ID 0
+    (need (headOk (c .head)) HEADER 0
+    (need (lengthOk bytes c) LENGTH 0
+    (steps bytes c id)))

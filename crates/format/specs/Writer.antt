@@ -1,0 +1,51 @@
+-- The writer: refusals 1 to 6 in order, each over the whole input before the next (document 01, "Refusal numbers").
+-- Assumes nothing.
+use Prim.Native.Nat.{ℕ, suc}
+use mathlib.Core.Bool.{cond}
+use mathlib.Core.List.{List, [], _∷_, _++_}
+use mathlib.Core.Option.{Option, none, some}
+use lib.ListN.{length, drop}
+use lib.Dec.{leb, ltb, eqb}
+use lib.IntN.{ℤ}
+use Rattle.format.specs.Limits.{maxId, powerOk, startLimit}
+use Rattle.format.specs.Refusals.{Outcome, done, refused, need, needNone, LENGTHS, POWER, ORDER, RANGE, OFFSET, ROOM}
+use Rattle.format.specs.Ids.{blocks}
+use Rattle.format.specs.Column.{column}
+
+-- the first index, i and on, at which an id is not above the one before, a
+unfoldable pub notAbove : ℕ → ℕ → List ℕ → Option ℕ
+notAbove i a [] = none
+notAbove i a (x ∷ xs) = cond (ltb a x) (notAbove (suc i) x xs) (some i)
+
+unfoldable pub orderFault : List ℕ → Option ℕ
+orderFault [] = none
+orderFault (x ∷ xs) = notAbove 1 x xs
+
+-- the first index, i and on, at which an id is above its limit
+unfoldable pub rangeFault : ℕ → List ℕ → Option ℕ
+rangeFault i [] = none
+rangeFault i (x ∷ xs) = cond (leb x maxId) (rangeFault (suc i) xs) (some i)
+
+-- the column, for an output of `room` bytes; the last start of a block is the end block's
+unfoldable pub write : ℕ → List ℕ → List ℤ → ℕ → Outcome (List ℕ)
+write p ids vs room =
+    let out : List ℕ = column p ids vs in
+    need (eqb (length ids) (length vs)) LENGTHS 0
+    (need (powerOk p) POWER 0
+    (needNone (orderFault ids) ORDER
+    (needNone (rangeFault 0 ids) RANGE
+    (need (ltb (length (blocks p ids)) startLimit) OFFSET 0
+    (need (leb (length out) room) ROOM (length out)
+    (done out))))))
+
+-- ---- the reply and the output afterwards
+
+-- success hands back the column's byte count
+unfoldable pub writeReply : Outcome (List ℕ) → Outcome ℕ
+writeReply (done bytes) = done (length bytes)
+writeReply (refused why w) = refused why w
+
+-- success changes exactly the column's bytes, and a refusal none
+unfoldable pub writeOut : Outcome (List ℕ) → List ℕ → List ℕ
+writeOut (done bytes) out = bytes ++ drop (length bytes) out
+writeOut (refused why w) out = out

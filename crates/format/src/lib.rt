@@ -1,0 +1,90 @@
+// The score column's format: every definition of document 01 stands in specs/, and the theorems about them in proofs/. Here are
+// the types of the library's answers; specs/Replies.antt gives the paper's number for each of their cases.
+ghost use mathlib.Core.Path.{_≡_};
+ghost use Rattle.format.specs.Replies.{refusalNumber, refusalWith};
+
+// Document 01's refusals, each with the number that goes with it, where that is not always 0.
+pub enum Refusal {
+    Lengths,
+    Power,
+    Order(u64),
+    Range(u64),
+    Offset,
+    Room(u64),
+    Short,
+    Number,
+    Edition,
+    Header,
+    Length,
+    Buffer(u64),
+    Damaged,
+    Id,
+    Broken,
+}
+
+// What the writer (its byte count), the check and the reading (n) answer.
+pub enum Reply {
+    Done(u64),
+    Refused(Refusal),
+}
+
+// What a look-up answers.
+pub enum Answer {
+    Found {
+        ordinal: u64,
+        value: i64,
+        words: u64,
+    },
+    Absent {
+        words: u64,
+    },
+    Refused(Refusal),
+}
+
+impl Refusal {
+    // The refusal's number.
+    pub fn number(self) -> u64
+        ensures { λ r. ⌜ r ≡ refusalNumber self ⌝ }
+    {
+        match self {
+            Refusal::Lengths => 1,
+            Refusal::Power => 2,
+            Refusal::Order(_) => 3,
+            Refusal::Range(_) => 4,
+            Refusal::Offset => 5,
+            Refusal::Room(_) => 6,
+            Refusal::Short => 7,
+            Refusal::Number => 8,
+            Refusal::Edition => 9,
+            Refusal::Header => 10,
+            Refusal::Length => 11,
+            Refusal::Buffer(_) => 12,
+            Refusal::Damaged => 13,
+            Refusal::Id => 14,
+            Refusal::Broken => 15,
+        }
+    }
+
+    // The number with it: an index, the bytes or the places needed, or 0.
+    pub fn number_with(self) -> u64
+        ensures { λ r. ⌜ r ≡ refusalWith self ⌝ }
+    {
+        match self {
+            Refusal::Order(i) => i,
+            Refusal::Range(i) => i,
+            Refusal::Room(n) => n,
+            Refusal::Buffer(n) => n,
+            Refusal::Lengths => 0,
+            Refusal::Power => 0,
+            Refusal::Offset => 0,
+            Refusal::Short => 0,
+            Refusal::Number => 0,
+            Refusal::Edition => 0,
+            Refusal::Header => 0,
+            Refusal::Length => 0,
+            Refusal::Damaged => 0,
+            Refusal::Id => 0,
+            Refusal::Broken => 0,
+        }
+    }
+}

@@ -1,0 +1,2 @@
+-- What writing one number after others does.
+pub mod Appended

@@ -1,0 +1,95 @@
+-- Bytes compared as numbers. Assumes nothing.
+use mathlib.Core.Path.{_≡_, refl, sym, ap, ap₂, _∙_}
+use mathlib.Core.Bool.{Bool, true, false}
+use mathlib.Core.List.{List, [], _∷_}
+use Prim.Native.Nat.{ℕ, zero, suc, _+_, _-_, _*_, _/_, _^_, _<_, _≤_}
+use native.Mathlib.Nat.{mod-eq-of-lt}
+use native.Mathlib.Omega.{arith}
+use lib.Dec.{eqb, lit<}
+use lib.ListN.{length, take, drop, getD, length-drop, length-take}
+use lib.Seq.{length-take-le}
+use borrow.Author.Tests.{eq-eqb, ne-eqb}
+use Rattle.format.specs.Bytes.{digits, fromDigits, low, fromLow, same, lowAt}
+use Rattle.format.specs.Ids.{Entry, entryBytes, endBlock}
+use Rattle.format.specs.Pairs.{Below}
+use Rattle.format.proofs.Cases.{equal-or}
+use Rattle.format.proofs.Digits.{digits-from, from-digits, from-append, length-digits, below-append}
+use Rattle.format.proofs.RoundTrip.{same-refl}
+use Rattle.format.proofs.Unique.{same-eq}
+use Rattle.judge.proofs.Parts.{below-take, below-drop}
+use Rattle.numbers.proofs.Shorts.{low-add}
+
+pub below-all : (b : ℕ) (s : List ℕ) → ((i : ℕ) → getD s i 0 < b) → Below b s
+below-all b [] h = tt
+below-all b (x ∷ s) h = (h 0, below-all b s (λ i. h (suc i)))
+
+differ : (l m : List ℕ) → (l ≡ m → ⊥) → same l m ≡ false
+differ l m h = go (same l m) refl
+  where
+    go : (t : Bool) → same l m ≡ t → same l m ≡ false
+    go true e = absurd (h (same-eq l m e))
+    go false e = e
+
+pub same-number : (l m : List ℕ) → length l ≡ length m → Below 256 l → Below 256 m → same l m ≡ eqb (fromLow l) (fromLow m)
+same-number l m e t u =
+    equal-or (fromLow l) (fromLow m)
+    (λ h.
+    let q : l ≡ m = sym (digits-from 256 l (lit< tt) t) ∙ ap₂ (λ (x y : ℕ). low x y) e h ∙ digits-from 256 m (lit< tt) u in
+    ap (λ (x : List ℕ). same x m) q ∙ same-refl m ∙ sym (eq-eqb (fromLow l) (fromLow m) h))
+    (λ h. differ l m (λ q. h (ap fromLow q)) ∙ sym (ne-eqb (fromLow l) (fromLow m) h))
+
+below-low : (k n : ℕ) → Below 256 (low k n)
+unfolding digits
+below-low zero n = tt
+below-low (suc k) n = (omega arith, below-low k (n / 256))
+
+entry-below : (e : Entry) → Below 256 (entryBytes e)
+unfolding entryBytes
+entry-below e = below-append 256 (low 4 (e .0)) (low 4 (e .1)) (below-low 4 (e .0)) (below-low 4 (e .1))
+
+entry-long : (e : Entry) → length (entryBytes e) ≡ 8
+unfolding entryBytes digits
+entry-long e = refl
+
+entry-number : (o a : ℕ) → o < 4294967296 → a < 4294967296 → fromLow (entryBytes (o, a)) ≡ o + 4294967296 * a
+unfolding entryBytes
+entry-number o a h k =
+    from-append 256 (low 4 o) (low 4 a)
+    ∙ ap₂ (λ (n x : ℕ). fromLow (low 4 o) + 256 ^ n * x) (length-digits 256 4 o) (from-digits 256 4 a (lit< tt) ∙ mod-eq-of-lt k)
+    ∙ ap (λ (x : ℕ). x + 4294967296 * a) (from-digits 256 4 o (lit< tt) ∙ mod-eq-of-lt h)
+
+long-number : (s : List ℕ) (b : ℕ) → b + 8 ≤ length s → fromLow (take 8 (drop b s)) ≡ lowAt 4 s b + 4294967296 * lowAt 4 s (b + 4)
+unfolding lowAt
+long-number s b h = low-add 4 4 s b (omega arith)
+
+six-number : (s : List ℕ) (b : ℕ) → b + 6 ≤ length s → fromLow (take 6 (drop b s)) ≡ lowAt 4 s b + 4294967296 * lowAt 2 s (b + 4)
+unfolding lowAt
+six-number s b h = low-add 4 2 s b (omega arith)
+
+-- an entry as two ints
+pub entry-same : (s : List ℕ) (b o a : ℕ) → Below 256 s → b + 8 ≤ length s → o < 4294967296 → a < 4294967296
+    → same (take 8 (drop b s)) (entryBytes (o, a)) ≡ eqb (lowAt 4 s b + 4294967296 * lowAt 4 s (b + 4)) (o + 4294967296 * a)
+entry-same s b o a u h ho ha =
+    same-number (take 8 (drop b s)) (entryBytes (o, a)) (length-take-le 8 (drop b s) (omega (arith, length-drop b s)) ∙ sym (entry-long (o, a)))
+    (below-take 256 8 (drop b s) (below-drop 256 b s u)) (entry-below (o, a))
+    ∙ ap₂ eqb (long-number s b h) (entry-number o a ho ha)
+
+pub entry-short : (s : List ℕ) (b : ℕ) (e : Entry) → length s < b + 8 → same (take 8 (drop b s)) (entryBytes e) ≡ false
+entry-short s b e h =
+    differ (take 8 (drop b s)) (entryBytes e)
+    (λ q. omega (arith, ap length q, length-take 8 (drop b s), length-drop b s, entry-long e))
+
+end-below : Below 256 endBlock
+unfolding endBlock
+end-below = (lit< tt, (lit< tt, (lit< tt, (lit< tt, (lit< tt, (lit< tt, tt))))))
+
+end-number : (length endBlock ≡ 6) × (fromLow endBlock ≡ 281470681776127)
+unfolding endBlock fromDigits
+end-number = (refl, refl)
+
+pub end-same : (s : List ℕ) (at : ℕ) → Below 256 s → at + 6 ≤ length s
+    → same (take 6 (drop at s)) endBlock ≡ eqb (lowAt 4 s at + 4294967296 * lowAt 2 s (at + 4)) 281470681776127
+end-same s at u h =
+    same-number (take 6 (drop at s)) endBlock (length-take-le 6 (drop at s) (omega (arith, length-drop at s)) ∙ sym (end-number .0))
+    (below-take 256 6 (drop at s) (below-drop 256 at s u)) end-below
+    ∙ ap₂ eqb (six-number s at h) (end-number .1)

@@ -1,0 +1,66 @@
+-- `section_check::block_reason` meets its contract. Assumes nothing.
+use mathlib.Core.Path.{sym, _∙_}
+use Prim.Native.Nat.{_-_}
+use native.Mathlib.Omega.{arith}
+use borrow.Author.Needs.{needs}
+use Rattle.section_check.proofs.Turns.{reason-cut, reason-low, reason-high, reason-places, reason-ones, reason-ranks, reason-none}
+use borrow.Author.Tests.{not-true, not-false}
+use Rattle.section_check.proofs.block_reason.Statement.{statement}
+use Rattle.section_check.proofs.block_reason.Tie as tie
+
+add-t : tie.Need-add-t
+add-t c = search needs
+
+sub-if1 : tie.Need-sub-if1
+sub-if1 c = search needs
+
+data-bytes-requires : tie.Need-data-bytes-requires
+data-bytes-requires c κs = search needs
+
+returns : tie.Need-returns
+returns c = let a = c .before .before .before .args in let e = c .before .data-bytes .ensures .0 in reason-cut (a .p) (a .s .now) (a .at) (a .next) (a .k) (a .c) (omega arith)
+
+returns-2 : tie.Need-returns-2
+returns-2 c = let a = c .before .before .before .before .args in let e = c .before .before .data-bytes .ensures .0 in reason-low (a .p) (a .s .now) (a .at) (a .next) (a .k) (a .c) (omega arith) (omega arith)
+
+returns-3 : tie.Need-returns-3
+returns-3 c = let a = c .before .before .before .before .before .args in let e = c .before .before .before .data-bytes .ensures .0 in reason-high (a .p) (a .s .now) (a .at) (a .next) (a .k) (a .c) (omega arith) (omega arith) (omega arith)
+
+places-ok-requires : tie.Need-places-ok-requires
+places-ok-requires c κs = search needs
+
+returns-4 : tie.Need-returns-4
+returns-4 c = let a = c .before .before .before .before .before .before .before .args in let e = c .before .before .before .before .before .data-bytes .ensures .0 in reason-places (a .p) (a .s .now) (a .at) (a .next) (a .k) (a .c) (omega arith) (omega arith) (omega arith) (sym (c .before .places-ok .ensures) ∙ not-true _ (c .if4 .taken))
+
+ones-ok-requires : tie.Need-ones-ok-requires
+ones-ok-requires c κs = search needs
+
+returns-5 : tie.Need-returns-5
+returns-5 c = let a = c .before .before .before .before .before .before .before .before .before .args in let e = c .before .before .before .before .before .before .before .data-bytes .ensures .0 in reason-ones (a .p) (a .s .now) (a .at) (a .next) (a .k) (a .c) (omega arith) (omega arith) (omega arith) (sym (c .before .before .before .places-ok .ensures) ∙ not-false _ (c .before .before .if4 .left)) (sym (c .before .ones-ok .ensures) ∙ not-true _ (c .if5 .taken))
+
+ranks-ok-requires : tie.Need-ranks-ok-requires
+ranks-ok-requires c κs = search needs
+
+returns-6 : tie.Need-returns-6
+returns-6 c = let a = c .before .before .before .before .before .before .before .before .before .before .before .args in let e = c .before .before .before .before .before .before .before .before .before .data-bytes .ensures .0 in reason-ranks (a .p) (a .s .now) (a .at) (a .next) (a .k) (a .c) (omega arith) (omega arith) (omega arith) (sym (c .before .before .before .before .before .places-ok .ensures) ∙ not-false _ (c .before .before .before .before .if4 .left)) (sym (c .before .before .before .ones-ok .ensures) ∙ not-false _ (c .before .before .if5 .left)) (sym (c .before .ranks-ok .ensures) ∙ not-true _ (c .if6 .taken))
+
+returns-7 : tie.Need-returns-7
+returns-7 c = let a = c .before .before .before .before .before .before .before .before .before .before .before .args in let e = c .before .before .before .before .before .before .before .before .before .data-bytes .ensures .0 in reason-none (a .p) (a .s .now) (a .at) (a .next) (a .k) (a .c) (omega arith) (omega arith) (omega arith) (sym (c .before .before .before .before .before .places-ok .ensures) ∙ not-false _ (c .before .before .before .before .if4 .left)) (sym (c .before .before .before .ones-ok .ensures) ∙ not-false _ (c .before .before .if5 .left)) (sym (c .before .ranks-ok .ensures) ∙ not-false _ (c .if6 .left))
+
+pub block-reason-spec : {M : Type 1} → statement M
+block-reason-spec =
+    tie.close
+    (tie.spec
+    add-t
+    sub-if1
+    data-bytes-requires
+    returns
+    returns-2
+    returns-3
+    places-ok-requires
+    returns-4
+    ones-ok-requires
+    returns-5
+    ranks-ok-requires
+    returns-6
+    returns-7)

@@ -1,0 +1,2 @@
+-- Signed numbers in a form without sign.
+pub mod Sign

@@ -1,0 +1,42 @@
+-- The turns of the loops that look for a fault. Assumes nothing.
+use mathlib.Core.Path.{_≡_, refl}
+use mathlib.Core.Option.{none, some}
+use mathlib.Core.List.{List, [], _∷_}
+use Prim.Native.Nat.{ℕ, _+_, _-_, _≤_, _<_}
+use native.Mathlib.Numerals.{add-one}
+use lib.ListN.{length, getD, drop, drop-of-length-le}
+use lib.Seq.{drop-cons}
+use borrow.Author.Tests.{lt-ltb, le-ltb, le-leb, lt-leb}
+use Rattle.format.specs.Writer.{notAbove, orderFault, rangeFault}
+
+-- ---- the loops
+
+pub order-start : (ids : List ℕ) → orderFault ids ≡ notAbove 1 (getD ids 0 0) (drop 1 ids)
+unfolding orderFault notAbove
+order-start [] = refl
+order-start (x ∷ xs) = refl
+
+module _ (ids : List ℕ) (i : ℕ) where
+  pub order-end : (a : ℕ) → length ids ≤ i → notAbove i a (drop i ids) ≡ none
+  unfolding notAbove
+  order-end a h = rw (drop-of-length-le ids h)
+
+  pub order-more : (a : ℕ) → i < length ids → a < getD ids i 0 → notAbove i a (drop i ids) ≡ notAbove (i + 1) (getD ids i 0) (drop (i + 1) ids)
+  unfolding notAbove
+  order-more a h k = rw (drop-cons ids i 0 h, lt-ltb a (getD ids i 0) k, add-one i)
+
+  pub order-here : (a : ℕ) → i < length ids → getD ids i 0 ≤ a → notAbove i a (drop i ids) ≡ some i
+  unfolding notAbove
+  order-here a h k = rw (drop-cons ids i 0 h, le-ltb a (getD ids i 0) k)
+
+  pub range-end : length ids ≤ i → rangeFault i (drop i ids) ≡ none
+  unfolding rangeFault
+  range-end h = rw (drop-of-length-le ids h)
+
+  pub range-more : i < length ids → getD ids i 0 ≤ 2147352575 → rangeFault i (drop i ids) ≡ rangeFault (i + 1) (drop (i + 1) ids)
+  unfolding rangeFault
+  range-more h k = rw (drop-cons ids i 0 h, le-leb (getD ids i 0) 2147352575 k, add-one i)
+
+  pub range-here : i < length ids → 2147352575 < getD ids i 0 → rangeFault i (drop i ids) ≡ some i
+  unfolding rangeFault
+  range-here h k = rw (drop-cons ids i 0 h, lt-leb (getD ids i 0) 2147352575 k)
