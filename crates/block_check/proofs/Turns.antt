@@ -1,22 +1,24 @@
 -- The turns of the loops over a block. Assumes nothing.
-use mathlib.Core.Path.{_≡_, sym, ap, ap₂, _∙_}
-use mathlib.Core.Bool.{true, false}
+use mathlib.Core.Path.{_≡_, refl, sym, ap, ap₂, _∙_}
+use mathlib.Core.Bool.{Bool, true, false, cond, _&&_}
 use mathlib.Core.List.{List, _∷_}
 use Prim.Native.Nat.{ℕ, suc, _+_, _-_, _*_, _/_, _^_, _<_, _≤_}
+use lib.Pow.{pow-add}
 use native.Mathlib.Omega.{arith}
 use native.Mathlib.Numerals.{add-one}
 use lib.Dec.{eqb}
 use lib.ListN.{take, drop}
 use lib.Seq.{drop-drop}
 use borrow.Author.Tests.{le-leb, lt-leb, eq-eqb, ne-eqb}
+use Rattle.format.specs.Limits.{Power}
 use Rattle.format.specs.Bytes.{fromLow, lowAt, highAt}
 use Rattle.format.specs.Ids.{byKind, rankBytes}
 use Rattle.format.specs.IdsRead.{shorts}
 use Rattle.format.specs.LookUp.{onesFrom}
 use Rattle.format.proofs.Cases.{below-or}
 use Rattle.format.proofs.Blocks.{kind-sparse, kind-dense, kind-all}
-use Rattle.judge.specs.Judge.{ascFrom, ranksFrom, placesOk, onesOk, ranksOk}
-use Rattle.format.proofs.Sizes.{ranks-none}
+use Rattle.judge.specs.Judge.{ascFrom, ranksFrom, placesOk, onesOk, ranksOk, onesUnlike, rankWrong}
+use Rattle.format.proofs.Sizes.{ranks-none, ranks-some}
 use Rattle.judge.proofs.Held.{ranks-zero}
 
 -- ---- shorts that ascend
@@ -51,24 +53,33 @@ asc-begin s t c =
 
 -- ---- ranks
 
-pub ranks-stop : (n p : ℕ) (s : List ℕ) (t m j : ℕ) → j < n → (highAt 2 s (t + 2 * j) ≡ onesFrom s m (j * 2 ^ (p - 6)) 0 → ⊥) → ranksFrom (n - j) p s t m j ≡ false
-unfolding ranksFrom
-ranks-stop n p s t m j h k =
-    let e : n - j ≡ suc (n - (j + 1)) = omega arith in
-    rw (e, ne-eqb _ _ k)
+and-assoc : (a b c : Bool) → (a && b) && c ≡ a && (b && c)
+and-assoc true b c = refl
+and-assoc false b c = refl
 
-pub ranks-on : (n p : ℕ) (s : List ℕ) (t m j : ℕ) → j < n → highAt 2 s (t + 2 * j) ≡ onesFrom s m (j * 2 ^ (p - 6)) 0
-    → ranksFrom (n - j) p s t m j ≡ ranksFrom (n - (j + 1)) p s t m (j + 1)
-unfolding ranksFrom
-ranks-on n p s t m j h k =
-    let e : n - j ≡ suc (n - (j + 1)) = omega arith in
-    rw (e, eq-eqb _ _ k, add-one)
+and-true : (a : Bool) → a && true ≡ a
+and-true true = refl
+and-true false = refl
 
-pub ranks-end : (n p : ℕ) (s : List ℕ) (t m j : ℕ) → n ≤ j → ranksFrom (n - j) p s t m j ≡ true
+-- one entry more, with what was found so far; the entry and the ones are the code's own numbers
+pub ranks-turn : (n p : ℕ) (s : List ℕ) (t m j : ℕ) (r : Bool) {x y : ℕ} {q : Bool} → j < n → q ≡ (r && eqb x y) → x ≡ highAt 2 s (t + 2 * j) → y ≡ onesFrom s m (j * 2 ^ (p - 6)) 0
+    → q && ranksFrom (n - (j + 1)) p s t m (j + 1) ≡ r && ranksFrom (n - j) p s t m j
 unfolding ranksFrom
-ranks-end n p s t m j h =
+ranks-turn n p s t m j r h eq ex ey =
+    let e : n - j ≡ suc (n - (j + 1)) = omega arith in
+    rw (eq, ex, ey, e, add-one) (and-assoc r (eqb (highAt 2 s (t + 2 * j)) (onesFrom s m (j * 2 ^ (p - 6)) 0)) _)
+
+pub ranks-last : (n p : ℕ) (s : List ℕ) (t m j : ℕ) (r : Bool) → n ≤ j → r && ranksFrom (n - j) p s t m j ≡ r
+unfolding ranksFrom
+ranks-last n p s t m j r h =
     let e : n - j ≡ 0 = omega arith in
-    rw e
+    rw e (and-true r)
+
+-- all strides together are the block's longs
+pub strides-all : (p j : ℕ) → Power p → (p ≡ 0 → ⊥) → j ≡ rankBytes p / 2 → j * 2 ^ (p - 6) ≡ 1024
+strides-all p j h e q =
+    let six : 16 - p + (p - 6) ≡ 10 = omega (arith, h .most, h .least e) in
+    ap (λ (x : ℕ). x * 2 ^ (p - 6)) (q ∙ ranks-some p (h .most) e .1) ∙ sym (pow-add 2 (16 - p) (p - 6)) ∙ ap (λ (x : ℕ). 2 ^ x) six
 
 -- ---- by kind
 
@@ -81,29 +92,31 @@ unfolding placesOk byKind
 places-more s t c h = below-or c 65536 (λ k. rw (kind-dense c h k)) (λ k. rw (kind-all c k))
 
 module _ (p : ℕ) (s : List ℕ) (t c : ℕ) where
-  pub ones-sparse : c < 4096 → onesOk p s t c ≡ true
-  unfolding onesOk byKind
-  ones-sparse h = rw (kind-sparse c h)
+  -- the reason of a block's longs
+  abbrev pub wordsReason : ℕ
+  wordsReason = cond (onesOk p s t c) (cond (ranksOk p s t c) 0 rankWrong) onesUnlike
 
-  pub ones-dense : 4096 ≤ c → c < 65536 → onesOk p s t c ≡ eqb (onesFrom s (t + rankBytes p) 1024 0) c
-  unfolding onesOk byKind
-  ones-dense h k = rw (kind-dense c h k)
+  pub words-sparse : c < 4096 → 0 ≡ wordsReason
+  unfolding onesOk ranksOk byKind
+  words-sparse h = rw (kind-sparse c h)
 
-  pub ones-whole : 65536 ≤ c → onesOk p s t c ≡ true
-  unfolding onesOk byKind
-  ones-whole h = rw (kind-all c h)
+  pub words-whole : 65536 ≤ c → 0 ≡ wordsReason
+  unfolding onesOk ranksOk byKind
+  words-whole h = rw (kind-all c h)
 
-  pub ranks-sparse : c < 4096 → ranksOk p s t c ≡ true
-  unfolding ranksOk byKind
-  ranks-sparse h = rw (kind-sparse c h)
+  module _ (h : 4096 ≤ c) (k : c < 65536) (n : ℕ) (r : Bool) (en : n ≡ onesFrom s (t + rankBytes p) 1024 0)
+      (er : r ≡ ranksFrom (rankBytes p / 2) p s t (t + rankBytes p) 0) where
+    pub words-unlike : (n ≡ c → ⊥) → 4 ≡ wordsReason
+    unfolding onesOk ranksOk byKind
+    words-unlike e = rw (kind-dense c h k, ← en, ne-eqb n c e)
 
-  pub ranks-dense : 4096 ≤ c → c < 65536 → ranksOk p s t c ≡ ranksFrom (rankBytes p / 2) p s t (t + rankBytes p) 0
-  unfolding ranksOk byKind
-  ranks-dense h k = rw (kind-dense c h k)
+    pub words-ranks : n ≡ c → r ≡ false → 5 ≡ wordsReason
+    unfolding onesOk ranksOk byKind
+    words-ranks e f = rw (kind-dense c h k, ← en, eq-eqb n c e, ← er, f)
 
-  pub ranks-whole : 65536 ≤ c → ranksOk p s t c ≡ true
-  unfolding ranksOk byKind
-  ranks-whole h = rw (kind-all c h)
+    pub words-none : n ≡ c → r ≡ true → 0 ≡ wordsReason
+    unfolding onesOk ranksOk byKind
+    words-none e f = rw (kind-dense c h k, ← en, eq-eqb n c e, ← er, f)
 
 pub ranks-begin : (b p : ℕ) (s : List ℕ) (t : ℕ) → b ≡ rankBytes p → ranksFrom (rankBytes p / 2) p s t (t + rankBytes p) 0 ≡ ranksFrom (b / 2 - 0) p s t (t + b) 0
 ranks-begin b p s t e =

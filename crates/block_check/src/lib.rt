@@ -1,14 +1,14 @@
 // The tests of one block of an id section.
 ghost use mathlib.Core.Path.{_≡_};
-ghost use Prim.Native.Nat.{_+_, _-_, _*_, _/_, _^_, _≤_, _<_};
+ghost use mathlib.Core.Bool.{cond, _&&_};
+ghost use Prim.Native.Nat.{_+_, _-_, _*_, _/_, _≤_, _<_};
+ghost use lib.Dec.{eqb};
 ghost use lib.ListN.{length, drop};
-ghost use lib.Count.{onesIn};
-ghost use Rattle.format.specs.Bytes.{lowAt, highAt};
-ghost use Rattle.format.specs.Ids.{rankBytes, dataBytes, blockBytes};
+ghost use Rattle.format.specs.Ids.{rankBytes, dataBytes};
 ghost use Rattle.format.specs.IdsRead.{shorts};
 ghost use Rattle.format.specs.LookUp.{onesFrom};
 ghost use Rattle.format.specs.Limits.{Power};
-ghost use Rattle.judge.specs.Judge.{ascFrom, ranksFrom, placesOk, onesOk, ranksOk};
+ghost use Rattle.judge.specs.Judge.{ascFrom, ranksFrom, placesOk, onesOk, ranksOk, onesUnlike, rankWrong};
 
 // The shorts ascend.
 fn ascending(s: &[u8], t: usize, c: usize) -> bool
@@ -28,30 +28,47 @@ fn ascending(s: &[u8], t: usize, c: usize) -> bool
     true
 }
 
-// Each rank entry is the ones before its stride.
-fn ranked(s: &[u8], t: usize, p: usize) -> bool
+// What one pass over a dense block's longs finds: their ones, and whether each rank entry is the ones before its stride.
+struct Words {
+    ones: u64,
+    right: bool,
+}
+
+// Whether all was right, and two numbers are equal.
+fn still(right: bool, x: u64, y: u64) -> bool
+    ensures { λ r. ⌜ r ≡ (right && eqb x y) ⌝ }
+{
+    if !right {
+        return false;
+    }
+    x == y
+}
+
+fn count_words(s: &[u8], t: usize, p: usize) -> Words
     requires { ⌜ (Power p) × (t + rankBytes p + 8192 ≤ length (now s)) ⌝ }
-    ensures { λ r. ⌜ r ≡ ranksFrom (rankBytes p / 2) p (now (s .entry)) t (t + rankBytes p) 0 ⌝ }
+    ensures { λ r.
+        ⌜ (r .ones ≡ onesFrom (now (s .entry)) (t + rankBytes p) 1024 0)
+        × (r .right ≡ ranksFrom (rankBytes p / 2) p (now (s .entry)) t (t + rankBytes p) 0) ⌝ }
 {
     if p == 0 {
-        return true;
+        let ones = blocks::ones_from(s, t, 1024, 0);
+        return Words { ones, right: true };
     }
     let b = blocks::rank_bytes(p);
     let n = b / 2;
     let m = t + b;
     let w = blocks::stride(p);
+    let mut right = true;
     let mut sum: u64 = 0;
     let mut first = 0;
     let mut j = 0;
     while j < n {
-        if numbers::rank_at(s, t + 2 * j) != sum {
-            return false;
-        }
+        right = still(right, numbers::rank_at(s, t + 2 * j), sum);
         sum += blocks::ones_from(s, m, w, first);
         first += w;
         j += 1;
     }
-    true
+    Words { ones: sum, right }
 }
 
 pub fn places_ok(s: &[u8], t: usize, c: usize, p: usize) -> bool
@@ -64,29 +81,24 @@ pub fn places_ok(s: &[u8], t: usize, c: usize, p: usize) -> bool
     true
 }
 
-pub fn ones_ok(s: &[u8], t: usize, c: usize, p: usize) -> bool
+// The reason that a dense block's longs give, 0 for none: ones unlike the count, then a wrong rank.
+pub fn words_reason(s: &[u8], t: usize, c: usize, p: usize) -> u64
     requires { ⌜ (Power p) × (c ≤ 65536) × (t + dataBytes p c ≤ length (now s)) ⌝ }
-    ensures { λ r. ⌜ r ≡ onesOk p (now (s .entry)) t c ⌝ }
+    ensures { λ r. ⌜ r ≡ cond (onesOk p (now (s .entry)) t c) (cond (ranksOk p (now (s .entry)) t c) 0 rankWrong) onesUnlike ⌝ }
 {
     if c < 4096 {
-        return true;
+        return 0;
     }
     if c == 65536 {
-        return true;
+        return 0;
     }
-    let m = t + blocks::rank_bytes(p);
-    numbers::size(blocks::ones_from(s, m, 1024, 0)) == c
-}
-
-pub fn ranks_ok(s: &[u8], t: usize, c: usize, p: usize) -> bool
-    requires { ⌜ (Power p) × (c ≤ 65536) × (t + dataBytes p c ≤ length (now s)) ⌝ }
-    ensures { λ r. ⌜ r ≡ ranksOk p (now (s .entry)) t c ⌝ }
-{
-    if c < 4096 {
-        return true;
+    let found = count_words(s, t, p);
+    let right = found.right;
+    if numbers::size(found.ones) != c {
+        return 4;
     }
-    if c == 65536 {
-        return true;
+    if !right {
+        return 5;
     }
-    ranked(s, t, p)
+    0
 }

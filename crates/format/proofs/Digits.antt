@@ -1,14 +1,12 @@
 -- Digits in a base: how many, back from the number, and to it. One law for every base. Assumes nothing.
 use mathlib.Core.Path.{_≡_, refl, sym, ap, ap₂, _∙_}
-use mathlib.Core.List.{List, [], _∷_, _++_, reverse, reverse-reverse, reverse-append}
+use mathlib.Core.List.{List, [], _∷_, _++_, reverse, reverse-reverse, reverse-cons}
 use Prim.Native.Nat.{ℕ, zero, suc, _+_, _*_, _/_, _%_, _^_, _<_}
-use native.Mathlib.Nat.{pow-zero, pow-suc, mod-one, mul-comm, add-comm, zero-add, zero-div, add-mul-div-left, add-mul-mod-self-left, div-eq-of-lt, mod-eq-of-lt, one-le-pow, add-assoc, mul-add, mul-assoc, one-mul, zero-mul, mul-zero, pow-succ'}
-use native.Mathlib.Nat.{zero-lt-suc, mul-le-mul-left, mul-suc, suc-mul}
+use native.Mathlib.Nat.{pow-zero, pow-suc, mod-one, mul-comm, add-comm, zero-add, add-mul-div-left, add-mul-mod-self-left, div-eq-of-lt, mod-eq-of-lt, one-le-pow, add-assoc, mul-add, mul-assoc, one-mul, zero-mul, pow-succ', zero-lt-suc, mul-le-mul-left, mul-suc, suc-mul}
 use native.Mathlib.Omega.{arith}
-use mathlib.Core.List.{reverse-cons}
 use lib.Pow.{pow-add}
 use lib.Arith.{mod-mul}
-use lib.ListN.{length, length-append, length-reverse}
+use lib.ListN.{length, length-reverse}
 use Rattle.format.specs.Bytes.{digits, fromDigits, high, fromHigh, low, fromLow}
 use Rattle.format.specs.Pairs.{Below}
 

@@ -1,16 +1,24 @@
+-- What is proved about the definitions: Demands.antt has the demands, AllCases.antt the computed cases, Meaning.antt the words of document 01
+-- behind the definitions; the others lead there.
+pub mod AllCases
 pub mod Starred
-pub mod Tests
+pub mod Pins
+pub mod PinsSteps
+pub mod Demands
+pub mod Meaning
 pub mod Cases
 pub mod Digits
 pub mod Runs
 pub mod Bits
 pub mod Section
 pub mod Header
+pub mod Minimal
 pub mod Places
 pub mod Blocks
 pub mod Values
 pub mod Jumps
 pub mod Bounds
+pub mod Sizes
 pub mod Open
 pub mod RoundTrip
 pub mod Unique
@@ -19,7 +27,7 @@ pub mod Dense
 pub mod Find
 pub mod Place
 pub mod Skip
+pub mod FromEntry
 pub mod Looked
 pub mod Walked
-pub mod Minimal
-pub mod Sizes
+pub mod Words

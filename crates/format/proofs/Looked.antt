@@ -1,358 +1,190 @@
 -- The look-up in a column answers as the pair list does, with the words that its formula gives. Assumes nothing.
 use mathlib.Core.Path.{_≡_, refl, sym, ap, ap₂, _∙_, subst}
-use mathlib.Core.Bool.{Bool, true, false, cond, not, _&&_, _||_}
-use mathlib.Core.List.{List, [], _∷_, _++_, map, append-assoc}
-use Prim.Native.Nat.{ℕ, zero, suc, _+_, _-_, _*_, _/_, _%_, _^_, _<_, _≤_, zero-le, min}
-use native.Mathlib.Nat.{zero-add, add-assoc, le-refl, min-eq-left, min-eq-right, div-add-mod'}
+use mathlib.Core.Bool.{cond}
+use mathlib.Core.List.{List, [], _∷_, _++_, append-assoc}
+use Prim.Native.Nat.{ℕ, suc, _+_, _-_, _*_, _/_, _%_, _<_, _≤_, min}
+use native.Mathlib.Nat.{zero-add, div-add-mod'}
 use native.Mathlib.Omega.{arith}
-use lib.Dec.{T, eqb, leb, ltb, lit<, lit≤}
-use lib.IntN.{ℤ, pos, negsuc}
-use lib.Signed.{mag}
-use lib.ListN.{length, getD, take, drop, List·getD-map, length-append}
+use lib.IntN.{ℤ, pos}
+use lib.ListN.{length, getD, drop, length-append}
 use lib.Seq.{drop-at}
-use borrow.Author.Tests.{eq-eqb, ne-eqb, le-leb, lt-ltb, le-ltb, eqb-true, eqb-false}
-use Rattle.format.specs.Limits.{maxId}
-use Rattle.format.specs.Refusals.{Outcome, done, refused, andThen, need}
-use Rattle.format.specs.Bytes.{bytesOf, lowAt}
-use Rattle.format.specs.Bits.{unpacked, fetched}
-use Rattle.format.specs.Ids.{Run, runs, idSection, jumps, jumpsFrom, notTwo, blocks, blockOf, blockBytes, blockData, endBlock, Entry, entryBytes, countBelow, kindOf, byKind}
+use borrow.Author.Tests.{eq-eqb, ne-eqb, le-leb}
+use Rattle.format.specs.Refusals.{Outcome, done, andThen, need}
+use Rattle.format.specs.Bytes.{bytesOf}
+use Rattle.format.specs.Ids.{Run, runs, idSection, jumps, jumpsFrom, notTwo, blocks, blockOf, blockBytes, endBlock, Entry, entryBytes, countBelow}
 use Rattle.format.specs.IdsRead.{idsOf}
-use Rattle.format.specs.Values.{width, valueSection, stored, fits64}
-use Rattle.format.specs.Pairs.{Below, Asc, Each, Fits, Valid}
+use Rattle.format.specs.Pairs.{Valid}
 use Rattle.format.specs.Column.{column, headOf}
-use Rattle.format.specs.Opening.{Opened, openColumn, idPart, valuePart, valueIn, valueOf}
-use Rattle.format.specs.LookUp.{Look, found, absent, Place, inside, nowhere, broken, placeAt, entryAt, answer, fromEntry, steps, lookUp}
+use Rattle.format.specs.LookUp.{Look, found, absent, entryAt, fromEntry, steps, lookUp}
 use Rattle.format.specs.Walk.{inBlock, listed, words}
 use Rattle.format.proofs.Cases.{below-or, equal-or}
 use Rattle.format.proofs.Section.{totalBytes, length-blocks}
-use Rattle.format.proofs.Blocks.{Fine, AllFine}
+use Rattle.format.proofs.Blocks.{AllFine}
 use Rattle.format.proofs.Runs.{ids-runs}
 use Rattle.format.proofs.Jumps.{AscBlocks, endOf, idsUnder, bytesUnder, length-jumps, entry-is, end-ge, none-under, no-bytes-under}
-use Rattle.format.proofs.Find.{placesOf, no-places, count-runs, listed-runs, in-runs, count-lt}
-use Rattle.format.proofs.Place.{wordsIn, place-is}
-use Rattle.format.proofs.Skip.{length-ids, under-same, bytes-same, beyond, under-le, bytes-under-le, fromB, skip, First, View, view, number-read, count-read, data-read, end-read, ordinal-read, start-read}
-use Rattle.format.proofs.Bits.{fetched-is}
-use Rattle.format.proofs.RoundTrip.{is, xs, h, the-column, opened, ids-part, values-part, blocks-asc, blocks-fine, count-le, section-is, blocks-le, values-are, numbers-back, the-values, power-le, power-ge}
+use Rattle.format.proofs.Find.{placesOf, count-runs, listed-runs, in-runs}
+use Rattle.format.proofs.Place.{wordsIn}
+use Rattle.format.proofs.Skip.{length-ids, under-same, bytes-same, beyond, under-le, bytes-under-le, ordinal-read, start-read}
+use Rattle.format.proofs.RoundTrip.{h, the-column, opened, ids-part, blocks-asc, blocks-fine, count-le, section-is, blocks-le}
+pub use Rattle.format.proofs.FromEntry.{value-is}
+unfoldable pub use Rattle.format.proofs.FromEntry.{answered, by-block}
+use Rattle.format.proofs.FromEntry.{power16, at-run, none-there, from-entry}
 
-getD-any : (l : List ℤ) (i : ℕ) (d e : ℤ) → i < length l → getD l i d ≡ getD l i e
-getD-any [] i d e k = absurd (omega arith)
-getD-any (v ∷ vs) zero d e k = refl
-getD-any (v ∷ vs) (suc i) d e k = getD-any vs i d e (omega arith)
+module _ (p : ℕ) (ids : List ℕ) (vs : List ℤ) (ok : Valid p ids vs) (id : ℕ) (hid : id ≤ 2147352575) where
+  abbrev from : Entry → Outcome Look
+  from e = fromEntry (column p ids vs) (the-column p ids vs ok) id e
 
-each-at : (P : ℤ → Type 0) (vs : List ℤ) (i : ℕ) (d : ℤ) → Each P vs → i < length vs → P (getD vs i d)
-each-at P [] i d t k = absurd (omega arith)
-each-at P (v ∷ vs) zero d t k = t .0
-each-at P (v ∷ vs) (suc i) d t k = each-at P vs i d (t .1) (omega arith)
+  -- what the list says
+  abbrev the-answer : Look
+  the-answer = by-block p ids vs ok id hid
 
-fit-test : (v : ℤ) → Fits v → fits64 v ≡ true
-unfolding Fits
-fit-test v k = lt-ltb (mag v) (2 ^ 63) k
+  -- ---- step 1: the entry
 
-or-true : (a b : Bool) → b ≡ true → a || b ≡ true
-or-true true b e = refl
-or-true false b e = e
+  pair : {a b c d : ℕ} → a ≡ b → c ≡ d → _≡_ {A = Entry} (a, c) (b, d)
+  pair e f j = (e j, f j)
 
-block-ge : (p c : ℕ) → 4 ≤ blockBytes p c
-unfolding blockBytes
-block-ge p c = omega arith
+  entries : length (jumpsFrom p 0 0 0 (runs ids)) + 0 ≡ endOf 0 (runs ids) + 1
+  entries = length-jumps p 0 0 0 (runs ids) (blocks-asc p ids vs ok)
 
--- the answer for place r of a block with places rs, before which o ids stand
-unfoldable pub answered : List ℤ → ℕ → ℕ → List ℕ → ℕ → Look
-answered vs o r rs w = cond (listed r rs) (found (o + countBelow r rs) (getD vs (o + countBelow r rs) (pos 0)) w) (absent w)
+  entries-at : drop (length (idSection p ids) - 8 * length (jumps p ids)) (idSection p ids) ≡ bytesOf entryBytes (jumps p ids)
+  unfolding idSection blocks endBlock
+  entries-at =
+      ap (drop (length (idSection p ids) - 8 * length (jumps p ids))) (sym (append-assoc (bytesOf (blockOf p) (runs ids)) endBlock (bytesOf entryBytes (jumps p ids))))
+      ∙ drop-at (bytesOf (blockOf p) (runs ids) ++ endBlock) (bytesOf entryBytes (jumps p ids)) (length (idSection p ids) - 8 * length (jumps p ids))
+      (omega (arith, length-append (bytesOf (blockOf p) (runs ids)) endBlock, length-blocks p (runs ids) (power16 p ids vs ok), section-is p ids vs ok))
 
-nowhere-is : (bytes : List ℕ) (c : Opened) (o w : ℕ) → answer bytes c o (nowhere w) ≡ done (absent w)
-unfolding answer
-nowhere-is bytes c o w = refl
+  -- many entries: that of the id's block, or the last
+  module _ (many : jumps p ids ≡ jumpsFrom p 0 0 0 (runs ids)) where
+    i : ℕ
+    i = min (id / 65536) (length (jumps p ids) - 1)
 
-module _ (p : ℕ) (ids : List ℕ) (vs : List ℤ) (ok : Valid p ids vs) where
-  power16 : p ≤ 16
-  power16 = omega (arith, power-le p (ok .power))
+    i-le : i ≤ endOf 0 (runs ids)
+    unfolding i
+    i-le = omega (arith, ap length many, entries)
 
-  power6 : (p ≡ 0 → ⊥) → 6 ≤ p
-  power6 e = omega (arith, power-ge p (ok .power) (ne-eqb p 0 e))
+    the-entry : getD (jumps p ids) i (0, 0) ≡ (idsUnder i (runs ids), bytesUnder p i (runs ids))
+    the-entry =
+        ap (λ (l : List Entry). getD l i (0, 0)) many
+        ∙ entry-is p 0 0 0 i i (0, 0) (runs ids) (blocks-asc p ids vs ok) (zero-add i) i-le
+        ∙ pair (zero-add (idsUnder i (runs ids))) (zero-add (bytesUnder p i (runs ids)))
 
-  -- ---- values
+    i-lt : i < length (jumps p ids)
+    i-lt = omega (arith, ap length many, entries, i-le)
 
-  pub value-is : (i : ℕ) → i < length ids → valueOf (column p ids vs) (the-column p ids vs ok) i ≡ getD vs i (pos 0)
-  unfolding valueOf the-column headOf h xs
-  value-is i k =
-      rw (values-part p ids vs ok)
-      (ap (valueIn (h p ids vs ok))
-      (sym (fetched-is (width vs) (length ids) (valueSection vs) i k)
-      ∙ ap (λ (l : List ℕ). getD l i 0) (numbers-back p ids vs ok))
-      ∙ sym (List·getD-map (valueIn (h p ids vs ok)) (stored vs) i 0)
-      ∙ ap (λ (l : List ℤ). getD l i (valueIn (h p ids vs ok) 0)) (the-values p ids vs ok)
-      ∙ getD-any vs i (valueIn (h p ids vs ok) 0) (pos 0) (omega (arith, ok .lengths)))
+    ids-same : idsUnder i (runs ids) ≡ idsUnder (id / 65536) (runs ids)
+    unfolding i
+    ids-same =
+        below-or (id / 65536) (endOf 0 (runs ids))
+        (λ l.
+        let e : i ≡ id / 65536 = omega (arith, ap length many, entries) in
+        ap (λ (n : ℕ). idsUnder n (runs ids)) e)
+        (λ l. under-same i (id / 65536) 0 (runs ids) (blocks-asc p ids vs ok) (omega (arith, ap length many, entries)) l)
 
-  answer-is : (o i w : ℕ) → o + i < length ids
-      → answer (column p ids vs) (the-column p ids vs ok) o (inside i w) ≡ done (found (o + i) (getD vs (o + i) (pos 0)) w)
-  unfolding answer need
-  answer-is o i w k =
-      rw (value-is (o + i) k, fit-test (getD vs (o + i) (pos 0)) (each-at Fits vs (o + i) (pos 0) (ok .fit) (omega (arith, ok .lengths))))
+    bytes-same-too : bytesUnder p i (runs ids) ≡ bytesUnder p (id / 65536) (runs ids)
+    unfolding i
+    bytes-same-too =
+        below-or (id / 65536) (endOf 0 (runs ids))
+        (λ l.
+        let e : i ≡ id / 65536 = omega (arith, ap length many, entries) in
+        ap (λ (n : ℕ). bytesUnder p n (runs ids)) e)
+        (λ l. bytes-same p i (id / 65536) 0 (runs ids) (blocks-asc p ids vs ok) (omega (arith, ap length many, entries)) l)
 
-  -- ---- from an entry
+    ids-are : getD (jumps p ids) i (0, 0) .0 ≡ idsUnder i (runs ids)
+    ids-are = ap (λ (e : Entry). e .0) the-entry
 
-  module _ (id : ℕ) (hid : id ≤ 2147352575) where
-    at-run : (g : Run) (rest : List ℕ) (o s : ℕ) → drop s (idSection p ids) ≡ blockOf p g ++ rest → Fine g
-        → s + blockBytes p (length (g .places)) ≤ totalBytes p (runs ids) → o + length (g .places) ≤ length ids
-        → eqb (length (jumps p ids)) 0 || leb (id / 65536) (g .block) ≡ true
-        → fromEntry (column p ids vs) (the-column p ids vs ok) id (o, s)
-        ≡ cond (not (eqb (g .block) (id / 65536))) (done (absent 0))
-        (answer (column p ids vs) (the-column p ids vs ok) o (placeAt p (idSection p ids) (s + 4) (length (g .places)) (id % 65536)))
-    unfolding fromEntry need the-column headOf h
-    at-run g rest o s here fine by-bytes by-ids test =
-        let room : totalBytes p (runs ids) + 6 ≡ length (idSection p ids) - 8 * length (jumps p ids) = omega (arith, section-is p ids vs ok) in
-        rw (
-          ids-part p ids vs ok,
-          number-read (idSection p ids) s p g rest power16 fine here,
-          count-read (idSection p ids) s p g rest power16 fine here,
-          le-leb (s + 4) (length (idSection p ids) - 8 * length (jumps p ids)) (omega (arith, block-ge p (length (g .places)))),
-          test,
-          le-leb (s + blockBytes p (length (g .places))) (length (idSection p ids) - 8 * length (jumps p ids)) (omega arith),
-          le-leb (o + length (g .places)) (length ids) by-ids,
-        )
+    bytes-are : getD (jumps p ids) i (0, 0) .1 ≡ bytesUnder p i (runs ids)
+    bytes-are = ap (λ (e : Entry). e .1) the-entry
 
-    list-answer : (o : ℕ) (rs : List ℕ) (w : ℕ) → o + length rs ≤ length ids
-        → answer (column p ids vs) (the-column p ids vs ok) o (cond (listed (id % 65536) rs) (inside (countBelow (id % 65536) rs) w) (nowhere w))
-        ≡ done (answered vs o (id % 65536) rs w)
-    unfolding answered
-    list-answer o rs w k = go (listed (id % 65536) rs) refl
-      where
-        go : (q : Bool) → listed (id % 65536) rs ≡ q
-            → answer (column p ids vs) (the-column p ids vs ok) o (cond (listed (id % 65536) rs) (inside (countBelow (id % 65536) rs) w) (nowhere w))
-            ≡ done (cond (listed (id % 65536) rs) (found (o + countBelow (id % 65536) rs) (getD vs (o + countBelow (id % 65536) rs) (pos 0)) w) (absent w))
-        go true e = rw e (answer-is o (countBelow (id % 65536) rs) w (omega (arith, count-lt (id % 65536) rs e)))
-        go false e = rw e (nowhere-is (column p ids vs) (the-column p ids vs ok) o w)
+    entry-many : entryAt (idSection p ids) (length (idSection p ids) - 8 * length (jumps p ids)) (length (jumps p ids)) (id / 65536)
+        ≡ (idsUnder (id / 65536) (runs ids), bytesUnder p (id / 65536) (runs ids))
+    unfolding entryAt i
+    entry-many =
+        rw (ne-eqb (length (jumps p ids)) 0 (λ e. omega (arith, i-lt)))
+        (pair
+        (ordinal-read (idSection p ids) (length (idSection p ids) - 8 * length (jumps p ids)) (jumps p ids) i entries-at i-lt
+        (omega (arith, ids-are, under-le i (runs ids), ap length (ids-runs ids), count-le p ids vs ok)) ∙ ids-are ∙ ids-same)
+        (start-read (idSection p ids) (length (idSection p ids) - 8 * length (jumps p ids)) (jumps p ids) i entries-at i-lt
+        (omega (arith, bytes-are, bytes-under-le p i (runs ids), blocks-le p ids vs ok)) ∙ bytes-are ∙ bytes-same-too))
 
-    -- what the list says, by the id's block
-    unfoldable pub by-block : Look
-    by-block =
-        answered vs (idsUnder (id / 65536) (runs ids)) (id % 65536) (placesOf (id / 65536) (runs ids))
-        (wordsIn p (length (placesOf (id / 65536) (runs ids))) (id % 65536) (listed (id % 65536) (placesOf (id / 65536) (runs ids))))
+  -- ---- one block, numbered 0: no entries
+  module _ (none-kept : jumps p ids ≡ []) (two : length (jumpsFrom p 0 0 0 (runs ids)) ≡ 2) where
+    entry-none : entryAt (idSection p ids) (length (idSection p ids) - 8 * length (jumps p ids)) (length (jumps p ids)) (id / 65536) ≡ (0, 0)
+    unfolding entryAt
+    entry-none = rw (ap length none-kept)
 
-    none-there : placesOf (id / 65536) (runs ids) ≡ [] → by-block ≡ absent 0
-    unfolding by-block answered wordsIn kindOf byKind listed
-    none-there e = rw e
+    ends-at-one : endOf 0 (runs ids) ≡ 1
+    ends-at-one = omega (arith, entries)
 
-    section-at : drop (bytesUnder p (id / 65536) (runs ids)) (idSection p ids)
-        ≡ bytesOf (blockOf p) (fromB (id / 65536) (runs ids)) ++ (endBlock ++ bytesOf entryBytes (jumps p ids))
-    unfolding idSection blocks
-    section-at = skip p (id / 65536) 0 (runs ids) (endBlock ++ bytesOf entryBytes (jumps p ids)) power16 (blocks-asc p ids vs ok)
+    other-block : (l : List Run) → runs ids ≡ l → (id / 65536 ≡ 0 → ⊥) → from (0, 0) ≡ done the-answer
+    unfolding idSection blocks bytesOf endOf totalBytes
+    other-block [] e k =
+        let z : endOf 0 [] ≡ 1 = ap (endOf 0) (sym e) ∙ ends-at-one in
+        absurd (omega arith)
+    other-block (g ∷ gs) e k =
+        let a : AscBlocks 0 (g ∷ gs) = subst (AscBlocks 0) e (blocks-asc p ids vs ok) in
+        let f : AllFine (g ∷ gs) = subst AllFine e (blocks-fine p ids vs ok) in
+        let z : endOf (suc (g .block)) gs ≡ 1 = ap (endOf 0) (sym e) ∙ ends-at-one in
+        let y : suc (g .block) ≤ endOf (suc (g .block)) gs = end-ge (suc (g .block)) gs (a .1) in
+        at-run p ids vs ok id hid g (bytesOf (blockOf p) gs ++ (endBlock ++ bytesOf entryBytes (jumps p ids))) 0 0
+        (ap (λ (l : List Run). bytesOf (blockOf p) l ++ (endBlock ++ bytesOf entryBytes (jumps p ids))) e
+        ∙ append-assoc (blockOf p g) (bytesOf (blockOf p) gs) (endBlock ++ bytesOf entryBytes (jumps p ids)))
+        (f .0)
+        (subst (λ (l : List Run). 0 + blockBytes p (length (g .places)) ≤ totalBytes p l) (sym e) (omega arith))
+        (omega (arith, length-ids g gs, ap (λ (l : List Run). length (idsOf l)) e, ap length (ids-runs ids)))
+        (rw (ap length none-kept) refl)
+        ∙ rw (ne-eqb (g .block) (id / 65536) (λ q. k (omega arith)))
+        (ap {B = Outcome Look} (λ (x : Look). done x)
+        (sym (none-there p ids vs ok id hid (beyond (id / 65536) 0 (runs ids) (blocks-asc p ids vs ok) (omega (arith, ends-at-one))))))
 
-    at-first : (g : Run) (back : List Run) → First p (id / 65536) (runs ids) g → fromB (id / 65536) (runs ids) ≡ g ∷ back
-        → fromEntry (column p ids vs) (the-column p ids vs ok) id (idsUnder (id / 65536) (runs ids), bytesUnder p (id / 65536) (runs ids)) ≡ done by-block
-    unfolding bytesOf by-block
-    at-first g back f e =
-        at-run g (bytesOf (blockOf p) back ++ (endBlock ++ bytesOf entryBytes (jumps p ids))) (idsUnder (id / 65536) (runs ids)) (bytesUnder p (id / 65536) (runs ids))
-        here (f .fine) (f .its-end) (subst (λ (l : List ℕ). idsUnder (id / 65536) (runs ids) + length (g .places) ≤ length l) (ids-runs ids) (f .its-ids))
-        (or-true (eqb (length (jumps p ids)) 0) (leb (id / 65536) (g .block)) (le-leb (id / 65536) (g .block) (f .from)))
-        ∙ equal-or (g .block) (id / 65536) same other
-      where
-        here : drop (bytesUnder p (id / 65536) (runs ids)) (idSection p ids) ≡ blockOf p g ++ (bytesOf (blockOf p) back ++ (endBlock ++ bytesOf entryBytes (jumps p ids)))
-        here =
-            section-at ∙ ap (λ (l : List Run). bytesOf (blockOf p) l ++ (endBlock ++ bytesOf entryBytes (jumps p ids))) e
-            ∙ append-assoc (blockOf p g) (bytesOf (blockOf p) back) (endBlock ++ bytesOf entryBytes (jumps p ids))
+    from-zero : from (0, 0) ≡ done the-answer
+    from-zero =
+        equal-or (id / 65536) 0
+        (λ e.
+        let o : idsUnder (id / 65536) (runs ids) ≡ 0 = none-under (id / 65536) 0 (runs ids) (omega arith) (blocks-asc p ids vs ok) in
+        let s : bytesUnder p (id / 65536) (runs ids) ≡ 0 = no-bytes-under p (id / 65536) 0 (runs ids) (omega arith) (blocks-asc p ids vs ok) in
+        ap (from) (pair (sym o) (sym s)) ∙ from-entry p ids vs ok id hid)
+        (λ e. other-block (runs ids) refl e)
 
-        same : g .block ≡ id / 65536
-            → cond (not (eqb (g .block) (id / 65536))) (done (absent 0))
-            (answer (column p ids vs) (the-column p ids vs ok) (idsUnder (id / 65536) (runs ids))
-            (placeAt p (idSection p ids) (bytesUnder p (id / 65536) (runs ids) + 4) (length (g .places)) (id % 65536)))
-            ≡ done by-block
-        same k =
-            rw (eq-eqb (g .block) (id / 65536) k)
-            (ap (answer (column p ids vs) (the-column p ids vs ok) (idsUnder (id / 65536) (runs ids)))
-            (place-is p (g .places) (idSection p ids) (bytesUnder p (id / 65536) (runs ids) + 4) (bytesOf (blockOf p) back ++ (endBlock ++ bytesOf entryBytes (jumps p ids)))
-            (f .fine .ascending) (f .fine .inside)
-            (data-read (idSection p ids) (bytesUnder p (id / 65536) (runs ids)) p g (bytesOf (blockOf p) back ++ (endBlock ++ bytesOf entryBytes (jumps p ids))) power16 (f .fine) here)
-            power16 power6 (id % 65536) (omega arith))
-            ∙ list-answer (idsUnder (id / 65536) (runs ids)) (g .places) (wordsIn p (length (g .places)) (id % 65536) (listed (id % 65536) (g .places)))
-            (subst (λ (l : List ℕ). idsUnder (id / 65536) (runs ids) + length (g .places) ≤ length l) (ids-runs ids) (f .its-ids))
-            ∙ ap {B = Outcome Look}
-            (λ (rs : List ℕ). done (answered vs (idsUnder (id / 65536) (runs ids)) (id % 65536) rs (wordsIn p (length rs) (id % 65536) (listed (id % 65536) rs))))
-            (sym (f .its-places ∙ rw (eq-eqb (g .block) (id / 65536) k) refl)))
+  -- ---- the look-up
 
-        other : (g .block ≡ id / 65536 → ⊥)
-            → cond (not (eqb (g .block) (id / 65536))) (done (absent 0))
-            (answer (column p ids vs) (the-column p ids vs ok) (idsUnder (id / 65536) (runs ids))
-            (placeAt p (idSection p ids) (bytesUnder p (id / 65536) (runs ids) + 4) (length (g .places)) (id % 65536)))
-            ≡ done by-block
-        other k = rw (ne-eqb (g .block) (id / 65536) k) (ap {B = Outcome Look} (λ (x : Look). done x) (sym (none-there (f .its-places ∙ rw (ne-eqb (g .block) (id / 65536) k) refl))))
+  two-dropped : length (jumpsFrom p 0 0 0 (runs ids)) ≡ 2 → jumps p ids ≡ []
+  unfolding jumps notTwo
+  two-dropped e = rw (eq-eqb (length (jumpsFrom p 0 0 0 (runs ids))) 2 e)
 
-    at-end : fromB (id / 65536) (runs ids) ≡ [] → View p (id / 65536) (runs ids) []
-        → fromEntry (column p ids vs) (the-column p ids vs ok) id (idsUnder (id / 65536) (runs ids), bytesUnder p (id / 65536) (runs ids)) ≡ done by-block
-    unfolding bytesOf fromEntry need the-column headOf h
-    at-end e v =
-        let here : drop (bytesUnder p (id / 65536) (runs ids)) (idSection p ids) ≡ endBlock ++ bytesOf entryBytes (jumps p ids) =
-        section-at ∙ ap (λ (l : List Run). bytesOf (blockOf p) l ++ (endBlock ++ bytesOf entryBytes (jumps p ids))) e in
-        let room : totalBytes p (runs ids) + 6 ≡ length (idSection p ids) - 8 * length (jumps p ids) = omega (arith, section-is p ids vs ok) in
-        rw (
-          ids-part p ids vs ok,
-          end-read (idSection p ids) (bytesUnder p (id / 65536) (runs ids)) (bytesOf entryBytes (jumps p ids)) here,
-          le-leb (bytesUnder p (id / 65536) (runs ids) + 4) (length (idSection p ids) - 8 * length (jumps p ids)) (omega (arith, v .1)),
-          or-true (eqb (length (jumps p ids)) 0) (leb (id / 65536) 32767) (le-leb (id / 65536) 32767 (omega arith)),
-          ne-eqb 32767 (id / 65536) (λ k. omega arith),
-          none-there (v .0),
-        )
+  all-kept : (length (jumpsFrom p 0 0 0 (runs ids)) ≡ 2 → ⊥) → jumps p ids ≡ jumpsFrom p 0 0 0 (runs ids)
+  unfolding jumps notTwo
+  all-kept e = rw (ne-eqb (length (jumpsFrom p 0 0 0 (runs ids))) 2 e)
 
-    -- from the entry of the id's block
-    from-entry : fromEntry (column p ids vs) (the-column p ids vs ok) id (idsUnder (id / 65536) (runs ids), bytesUnder p (id / 65536) (runs ids)) ≡ done by-block
-    from-entry = go (fromB (id / 65536) (runs ids)) refl (view p (id / 65536) 0 (runs ids) (blocks-asc p ids vs ok) (blocks-fine p ids vs ok))
-      where
-        go : (l : List Run) → fromB (id / 65536) (runs ids) ≡ l → View p (id / 65536) (runs ids) (fromB (id / 65536) (runs ids))
-            → fromEntry (column p ids vs) (the-column p ids vs ok) id (idsUnder (id / 65536) (runs ids), bytesUnder p (id / 65536) (runs ids)) ≡ done by-block
-        go [] e v = at-end e (subst (View p (id / 65536) (runs ids)) e v)
-        go (g ∷ back) e v = at-first g back (subst (View p (id / 65536) (runs ids)) e v) e
+  at-entry : from
+      (entryAt (idSection p ids) (length (idSection p ids) - 8 * length (jumps p ids)) (length (jumps p ids)) (id / 65536)) ≡ done the-answer
+  at-entry =
+      equal-or (length (jumpsFrom p 0 0 0 (runs ids))) 2
+      (λ e. ap (from) (entry-none (two-dropped e) e) ∙ from-zero (two-dropped e) e)
+      (λ e. ap (from) (entry-many (all-kept e)) ∙ from-entry p ids vs ok id hid)
 
-    -- ---- step 1: the entry
+  pub looked : lookUp (column p ids vs) id ≡ done the-answer
+  unfolding lookUp steps need andThen the-column headOf h
+  looked = rw (le-leb id 2147352575 hid, opened p ids vs ok, ids-part p ids vs ok) at-entry
 
-    pair : {a b c d : ℕ} → a ≡ b → c ≡ d → _≡_ {A = Entry} (a, c) (b, d)
-    pair e f j = (e j, f j)
+  -- ---- by the list alone
 
-    the-end : ℕ
-    the-end = endOf 0 (runs ids)
+  pub by-list : the-answer
+      ≡ cond (listed id ids) (found (countBelow id ids) (getD vs (countBelow id ids) (pos 0)) (words p ids id)) (absent (words p ids id))
+  unfolding by-block answered wordsIn words
+  by-list = rw (← the-count, ← the-test, ← the-block)
+    where
+      parts : id / 65536 * 65536 + id % 65536 ≡ id
+      parts = div-add-mod' id 65536
 
-    entries : length (jumpsFrom p 0 0 0 (runs ids)) + 0 ≡ endOf 0 (runs ids) + 1
-    entries = length-jumps p 0 0 0 (runs ids) (blocks-asc p ids vs ok)
+      the-count : countBelow id ids ≡ idsUnder (id / 65536) (runs ids) + countBelow (id % 65536) (placesOf (id / 65536) (runs ids))
+      the-count =
+          ap₂ countBelow (sym parts) (sym (ids-runs ids))
+          ∙ count-runs (id / 65536) (id % 65536) 0 (runs ids) (omega arith) (blocks-asc p ids vs ok) (blocks-fine p ids vs ok)
 
-    entries-at : drop (length (idSection p ids) - 8 * length (jumps p ids)) (idSection p ids) ≡ bytesOf entryBytes (jumps p ids)
-    unfolding idSection blocks endBlock
-    entries-at =
-        ap (drop (length (idSection p ids) - 8 * length (jumps p ids))) (sym (append-assoc (bytesOf (blockOf p) (runs ids)) endBlock (bytesOf entryBytes (jumps p ids))))
-        ∙ drop-at (bytesOf (blockOf p) (runs ids) ++ endBlock) (bytesOf entryBytes (jumps p ids)) (length (idSection p ids) - 8 * length (jumps p ids))
-        (omega (arith, length-append (bytesOf (blockOf p) (runs ids)) endBlock, length-blocks p (runs ids) power16, section-is p ids vs ok))
+      the-test : listed id ids ≡ listed (id % 65536) (placesOf (id / 65536) (runs ids))
+      the-test =
+          ap₂ listed (sym parts) (sym (ids-runs ids))
+          ∙ listed-runs (id / 65536) (id % 65536) 0 (runs ids) (omega arith) (blocks-asc p ids vs ok) (blocks-fine p ids vs ok)
 
-    -- many entries: that of the id's block, or the last
-    module _ (many : jumps p ids ≡ jumpsFrom p 0 0 0 (runs ids)) where
-      i : ℕ
-      i = min (id / 65536) (length (jumps p ids) - 1)
-
-      i-le : i ≤ endOf 0 (runs ids)
-      unfolding i
-      i-le = omega (arith, ap length many, entries)
-
-      the-entry : getD (jumps p ids) i (0, 0) ≡ (idsUnder i (runs ids), bytesUnder p i (runs ids))
-      the-entry =
-          ap (λ (l : List Entry). getD l i (0, 0)) many
-          ∙ entry-is p 0 0 0 i i (0, 0) (runs ids) (blocks-asc p ids vs ok) (zero-add i) i-le
-          ∙ pair (zero-add (idsUnder i (runs ids))) (zero-add (bytesUnder p i (runs ids)))
-
-      i-lt : i < length (jumps p ids)
-      i-lt = omega (arith, ap length many, entries, i-le)
-
-      ids-same : idsUnder i (runs ids) ≡ idsUnder (id / 65536) (runs ids)
-      unfolding i
-      ids-same =
-          below-or (id / 65536) (endOf 0 (runs ids))
-          (λ l.
-          let e : i ≡ id / 65536 = omega (arith, ap length many, entries) in
-          ap (λ (n : ℕ). idsUnder n (runs ids)) e)
-          (λ l. under-same i (id / 65536) 0 (runs ids) (blocks-asc p ids vs ok) (omega (arith, ap length many, entries)) l)
-
-      bytes-same-too : bytesUnder p i (runs ids) ≡ bytesUnder p (id / 65536) (runs ids)
-      unfolding i
-      bytes-same-too =
-          below-or (id / 65536) (endOf 0 (runs ids))
-          (λ l.
-          let e : i ≡ id / 65536 = omega (arith, ap length many, entries) in
-          ap (λ (n : ℕ). bytesUnder p n (runs ids)) e)
-          (λ l. bytes-same p i (id / 65536) 0 (runs ids) (blocks-asc p ids vs ok) (omega (arith, ap length many, entries)) l)
-
-      ids-are : getD (jumps p ids) i (0, 0) .0 ≡ idsUnder i (runs ids)
-      ids-are = ap (λ (e : Entry). e .0) the-entry
-
-      bytes-are : getD (jumps p ids) i (0, 0) .1 ≡ bytesUnder p i (runs ids)
-      bytes-are = ap (λ (e : Entry). e .1) the-entry
-
-      entry-many : entryAt (idSection p ids) (length (idSection p ids) - 8 * length (jumps p ids)) (length (jumps p ids)) (id / 65536)
-          ≡ (idsUnder (id / 65536) (runs ids), bytesUnder p (id / 65536) (runs ids))
-      unfolding entryAt i
-      entry-many =
-          rw (ne-eqb (length (jumps p ids)) 0 (λ e. omega (arith, i-lt)))
-          (pair
-          (ordinal-read (idSection p ids) (length (idSection p ids) - 8 * length (jumps p ids)) (jumps p ids) i entries-at i-lt
-          (omega (arith, ids-are, under-le i (runs ids), ap length (ids-runs ids), count-le p ids vs ok)) ∙ ids-are ∙ ids-same)
-          (start-read (idSection p ids) (length (idSection p ids) - 8 * length (jumps p ids)) (jumps p ids) i entries-at i-lt
-          (omega (arith, bytes-are, bytes-under-le p i (runs ids), blocks-le p ids vs ok)) ∙ bytes-are ∙ bytes-same-too))
-
-    -- ---- one block, numbered 0: no entries
-    module _ (none-kept : jumps p ids ≡ []) (two : length (jumpsFrom p 0 0 0 (runs ids)) ≡ 2) where
-      entry-none : entryAt (idSection p ids) (length (idSection p ids) - 8 * length (jumps p ids)) (length (jumps p ids)) (id / 65536) ≡ (0, 0)
-      unfolding entryAt
-      entry-none = rw (ap length none-kept)
-
-      ends-at-one : endOf 0 (runs ids) ≡ 1
-      ends-at-one = omega (arith, entries)
-
-      other-block : (l : List Run) → runs ids ≡ l → (id / 65536 ≡ 0 → ⊥) → fromEntry (column p ids vs) (the-column p ids vs ok) id (0, 0) ≡ done by-block
-      unfolding idSection blocks bytesOf endOf totalBytes
-      other-block [] e k =
-          let z : endOf 0 [] ≡ 1 = ap (endOf 0) (sym e) ∙ ends-at-one in
-          absurd (omega arith)
-      other-block (g ∷ gs) e k =
-          let a : AscBlocks 0 (g ∷ gs) = subst (AscBlocks 0) e (blocks-asc p ids vs ok) in
-          let f : AllFine (g ∷ gs) = subst AllFine e (blocks-fine p ids vs ok) in
-          let z : endOf (suc (g .block)) gs ≡ 1 = ap (endOf 0) (sym e) ∙ ends-at-one in
-          let y : suc (g .block) ≤ endOf (suc (g .block)) gs = end-ge (suc (g .block)) gs (a .1) in
-          at-run g (bytesOf (blockOf p) gs ++ (endBlock ++ bytesOf entryBytes (jumps p ids))) 0 0
-          (ap (λ (l : List Run). bytesOf (blockOf p) l ++ (endBlock ++ bytesOf entryBytes (jumps p ids))) e
-          ∙ append-assoc (blockOf p g) (bytesOf (blockOf p) gs) (endBlock ++ bytesOf entryBytes (jumps p ids)))
-          (f .0)
-          (subst (λ (l : List Run). 0 + blockBytes p (length (g .places)) ≤ totalBytes p l) (sym e) (omega arith))
-          (omega (arith, length-ids g gs, ap (λ (l : List Run). length (idsOf l)) e, ap length (ids-runs ids)))
-          (rw (ap length none-kept) refl)
-          ∙ rw (ne-eqb (g .block) (id / 65536) (λ q. k (omega arith)))
-          (ap {B = Outcome Look} (λ (x : Look). done x)
-          (sym (none-there (beyond (id / 65536) 0 (runs ids) (blocks-asc p ids vs ok) (omega (arith, ends-at-one))))))
-
-      from-zero : fromEntry (column p ids vs) (the-column p ids vs ok) id (0, 0) ≡ done by-block
-      from-zero =
-          equal-or (id / 65536) 0
-          (λ e.
-          let o : idsUnder (id / 65536) (runs ids) ≡ 0 = none-under (id / 65536) 0 (runs ids) (omega arith) (blocks-asc p ids vs ok) in
-          let s : bytesUnder p (id / 65536) (runs ids) ≡ 0 = no-bytes-under p (id / 65536) 0 (runs ids) (omega arith) (blocks-asc p ids vs ok) in
-          ap (fromEntry (column p ids vs) (the-column p ids vs ok) id) (pair (sym o) (sym s)) ∙ from-entry)
-          (λ e. other-block (runs ids) refl e)
-
-    -- ---- the look-up
-
-    two-dropped : length (jumpsFrom p 0 0 0 (runs ids)) ≡ 2 → jumps p ids ≡ []
-    unfolding jumps notTwo
-    two-dropped e = rw (eq-eqb (length (jumpsFrom p 0 0 0 (runs ids))) 2 e)
-
-    all-kept : (length (jumpsFrom p 0 0 0 (runs ids)) ≡ 2 → ⊥) → jumps p ids ≡ jumpsFrom p 0 0 0 (runs ids)
-    unfolding jumps notTwo
-    all-kept e = rw (ne-eqb (length (jumpsFrom p 0 0 0 (runs ids))) 2 e)
-
-    at-entry : fromEntry (column p ids vs) (the-column p ids vs ok) id
-        (entryAt (idSection p ids) (length (idSection p ids) - 8 * length (jumps p ids)) (length (jumps p ids)) (id / 65536)) ≡ done by-block
-    at-entry =
-        equal-or (length (jumpsFrom p 0 0 0 (runs ids))) 2
-        (λ e. ap (fromEntry (column p ids vs) (the-column p ids vs ok) id) (entry-none (two-dropped e) e) ∙ from-zero (two-dropped e) e)
-        (λ e. ap (fromEntry (column p ids vs) (the-column p ids vs ok) id) (entry-many (all-kept e)) ∙ from-entry)
-
-    pub looked : lookUp (column p ids vs) id ≡ done by-block
-    unfolding lookUp steps need andThen the-column headOf h
-    looked = rw (le-leb id 2147352575 hid, opened p ids vs ok, ids-part p ids vs ok) at-entry
-
-    -- ---- by the list alone
-
-    pub by-list : by-block
-        ≡ cond (listed id ids) (found (countBelow id ids) (getD vs (countBelow id ids) (pos 0)) (words p ids id)) (absent (words p ids id))
-    unfolding by-block answered wordsIn words
-    by-list = rw (← the-count, ← the-test, ← the-block)
-      where
-        parts : id / 65536 * 65536 + id % 65536 ≡ id
-        parts = div-add-mod' id 65536
-
-        the-count : countBelow id ids ≡ idsUnder (id / 65536) (runs ids) + countBelow (id % 65536) (placesOf (id / 65536) (runs ids))
-        the-count =
-            ap₂ countBelow (sym parts) (sym (ids-runs ids))
-            ∙ count-runs (id / 65536) (id % 65536) 0 (runs ids) (omega arith) (blocks-asc p ids vs ok) (blocks-fine p ids vs ok)
-
-        the-test : listed id ids ≡ listed (id % 65536) (placesOf (id / 65536) (runs ids))
-        the-test =
-            ap₂ listed (sym parts) (sym (ids-runs ids))
-            ∙ listed-runs (id / 65536) (id % 65536) 0 (runs ids) (omega arith) (blocks-asc p ids vs ok) (blocks-fine p ids vs ok)
-
-        the-block : inBlock (id / 65536) ids ≡ length (placesOf (id / 65536) (runs ids))
-        the-block = ap (inBlock (id / 65536)) (sym (ids-runs ids)) ∙ in-runs (id / 65536) 0 (runs ids) (blocks-asc p ids vs ok) (blocks-fine p ids vs ok)
+      the-block : inBlock (id / 65536) ids ≡ length (placesOf (id / 65536) (runs ids))
+      the-block = ap (inBlock (id / 65536)) (sym (ids-runs ids)) ∙ in-runs (id / 65536) 0 (runs ids) (blocks-asc p ids vs ok) (blocks-fine p ids vs ok)

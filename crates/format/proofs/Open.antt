@@ -1,19 +1,17 @@
 -- A column's header, opened. Assumes nothing.
-use mathlib.Core.Path.{_≡_, refl, sym, ap, ap₂, _∙_, subst}
-use mathlib.Core.Bool.{Bool, true, false, cond, _&&_, _||_}
-use mathlib.Core.List.{List, [], _∷_, _++_, map, append-assoc}
-use Prim.Native.Nat.{ℕ, zero, suc, _+_, _-_, _*_, _/_, _%_, _^_, _<_, _≤_, zero-le}
-use native.Mathlib.Nat.{zero-add, add-assoc}
+use mathlib.Core.Path.{_≡_, sym, ap, _∙_}
+use mathlib.Core.Bool.{true}
+use mathlib.Core.List.{List, [], _∷_, _++_, append-assoc}
+use Prim.Native.Nat.{ℕ, _+_, _^_}
+use native.Mathlib.Nat.{zero-add}
 use native.Mathlib.Omega.{arith}
-use lib.Dec.{T, eqb, leb, lit<, lit≤}
+use lib.Dec.{lit<}
 use lib.ListN.{length, take, drop, length-append}
 use lib.Seq.{drop-append-seam, take-at, drop-at, drop-drop}
-use borrow.Author.Tests.{eq-eqb, le-leb}
-use Rattle.format.specs.Limits.{powerOk, maxCount, maxJumps, maxWidth}
-use Rattle.format.specs.Refusals.{Outcome, done, refused, andThen, need}
+use borrow.Author.Tests.{eq-eqb}
+use Rattle.format.specs.Refusals.{done, andThen, need}
 use Rattle.format.specs.Bytes.{bytesOf}
 use Rattle.format.specs.HeaderNumbers.{number}
-use Rattle.format.specs.Bits.{packedBytes}
 use Rattle.format.specs.Pairs.{Below}
 use Rattle.format.specs.Column.{Head, headNumbers}
 use Rattle.format.specs.Opening.{numberAt, numbersAt, headFrom, headOk, Opened, openColumn, idPart, valuePart}

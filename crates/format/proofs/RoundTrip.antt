@@ -1,26 +1,26 @@
 -- The column of a pair list is opened, read back to that list, and passes the check. Assumes nothing.
-use mathlib.Core.Path.{_≡_, refl, sym, ap, ap₂, _∙_, subst}
-use mathlib.Core.Bool.{Bool, true, false, cond, _&&_, _||_}
-use mathlib.Core.List.{List, [], _∷_, _++_, map, append-assoc}
-use mathlib.Core.Option.{Option, none, some}
-use Prim.Native.Nat.{ℕ, zero, suc, _+_, _-_, _*_, _/_, _%_, _^_, _<_, _≤_, zero-le}
-use native.Mathlib.Nat.{zero-add, add-assoc, mul-le-mul-left, le-refl}
+use mathlib.Core.Path.{_≡_, refl, sym, ap, _∙_}
+use mathlib.Core.Bool.{Bool, true, false, _&&_, _||_}
+use mathlib.Core.List.{List, [], _∷_, map}
+use mathlib.Core.Option.{none}
+use Prim.Native.Nat.{ℕ, suc, _+_, _*_, _/_, _%_, _^_, _<_, _≤_, zero-le}
+use native.Mathlib.Nat.{mul-le-mul-left, le-refl}
 use native.Mathlib.Omega.{arith}
-use lib.Dec.{T, eqb, leb, ltb, lit<, lit≤}
+use lib.Dec.{eqb, leb}
 use lib.IntN.{ℤ, pos, negsuc}
 use lib.Signed.{mag}
 use lib.ListN.{length, length-map}
-use borrow.Author.Tests.{eq-eqb, ne-eqb, le-leb, lt-ltb, leb-true, eqb-true}
-use Rattle.format.specs.Limits.{powerOk, maxCount, maxJumps, maxWidth, maxId}
-use Rattle.format.specs.Refusals.{Outcome, done, refused, andThen, need, needNone}
+use borrow.Author.Tests.{eq-eqb, le-leb, lt-leb, lt-ltb, leb-true, eqb-true}
+use Rattle.format.specs.Limits.{powerOk}
+use Rattle.format.specs.Refusals.{done, refused, andThen, need, needNone, ROOM}
 use Rattle.format.specs.Bytes.{bytesOf, same}
-use Rattle.format.specs.HeaderNumbers.{number, zigzag, unzigzag}
+use Rattle.format.specs.HeaderNumbers.{zigzag, unzigzag}
 use Rattle.format.specs.Bits.{packedBytes, packed, unpacked}
-use Rattle.format.specs.Ids.{Run, runs, idSection, jumps, blocks, blockOf, blockBytes, endBlock, entryBytes, rankBytes}
+use Rattle.format.specs.Ids.{Run, runs, idSection, jumps, blocks, blockBytes, entryBytes}
 use Rattle.format.specs.IdsRead.{readRuns, idsOf}
-use Rattle.format.specs.Values.{width, smallest, divisor, stored, valueSection, valueAt, fits64}
+use Rattle.format.specs.Values.{width, smallest, divisor, stored, valueSection, valueAt}
 use Rattle.format.specs.Pairs.{Pairs, Below, Asc, Each, Fits, Valid}
-use Rattle.format.specs.Column.{Head, headOf, headNumbers, column}
+use Rattle.format.specs.Column.{Head, headOf, column}
 use Rattle.format.specs.Writer.{notAbove, orderFault, rangeFault, write}
 use Rattle.format.specs.Opening.{headOk, Opened, openColumn, idPart, valuePart, valueIn}
 use Rattle.format.specs.Check.{pairsIn, allFit, isDone, isColumn, accepted, check, reading}
@@ -28,7 +28,7 @@ use Rattle.format.proofs.Places.{asc-length}
 use Rattle.format.proofs.Section.{totalBytes, length-idSection, length-blocks}
 use Rattle.format.proofs.Blocks.{AllFine, read-runs}
 use Rattle.format.proofs.Runs.{ids-runs, fine-runs}
-use Rattle.format.proofs.Jumps.{AscBlocks, asc-blocks, endOf}
+use Rattle.format.proofs.Jumps.{AscBlocks, asc-blocks}
 use Rattle.format.proofs.Bits.{length-packed, unpacked-packed}
 use Rattle.format.proofs.Values.{values-back, stored-below}
 use Rattle.format.proofs.Bounds.{rank-le, total-le, end-le, jumps-le, width-le, zig-lt, divisor-is}
@@ -83,7 +83,7 @@ unfolding orderFault
 in-order [] t = refl
 in-order (x ∷ xs) t = no-order-fault 1 x xs (t .1)
 
-pub in-range : (i : ℕ) (ids : List ℕ) → Below 2147352576 ids → rangeFault i ids ≡ none
+in-range : (i : ℕ) (ids : List ℕ) → Below 2147352576 ids → rangeFault i ids ≡ none
 unfolding rangeFault
 in-range i [] t = refl
 in-range i (x ∷ xs) t = rw (le-leb x 2147352575 (omega (arith, t .0))) (in-range (suc i) xs (t .1))
@@ -223,18 +223,26 @@ module _ (p : ℕ) (ids : List ℕ) (vs : List ℤ) (ok : Valid p ids vs) where
   unfolding blocks
   starts-low = omega (arith, length-blocks p (runs ids) (omega (arith, power-le p (ok .power))), blocks-le)
 
-  -- the writer writes it wherever there is room
-  pub written : (room : ℕ) → length (column p ids vs) ≤ room → write p ids vs room ≡ done (column p ids vs)
+  -- the writer has nothing but the room to ask for
+  pub room-decides : (room : ℕ) → write p ids vs room
+      ≡ need (leb (length (column p ids vs)) room) ROOM (length (column p ids vs)) (done (column p ids vs))
   unfolding write need needNone
-  written room k =
+  room-decides room =
       rw (
         eq-eqb (length ids) (length vs) (ok .lengths),
         ok .power,
         in-order ids (ok .ascending),
         in-range 0 ids (ok .range),
         lt-ltb (length (blocks p ids)) 2147483647 starts-low,
-        le-leb (length (column p ids vs)) room k,
       )
+
+  pub written : (room : ℕ) → length (column p ids vs) ≤ room → write p ids vs room ≡ done (column p ids vs)
+  unfolding need
+  written room k = room-decides room ∙ rw (le-leb (length (column p ids vs)) room k) refl
+
+  pub no-room : (room : ℕ) → room < length (column p ids vs) → write p ids vs room ≡ refused ROOM (length (column p ids vs))
+  unfolding need
+  no-room room k = room-decides room ∙ rw (lt-leb (length (column p ids vs)) room k) refl
 
   pub taken : accepted (column p ids vs) the-column ≡ done (record { ids = ids; values = vs })
   unfolding accepted need isColumn isDone the-column headOf h

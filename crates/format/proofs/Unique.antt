@@ -1,26 +1,25 @@
 -- What the check accepts is the column of the list that the reading gives, and of no other. Assumes nothing.
 use mathlib.Core.Path.{_≡_, refl, sym, ap, ap₂, _∙_, subst}
-use mathlib.Core.Bool.{Bool, true, false, cond, _&&_, _||_}
-use mathlib.Core.List.{List, [], _∷_, _++_, map, append-assoc}
+use mathlib.Core.Bool.{Bool, true, false, cond, _&&_}
+use mathlib.Core.List.{List, [], _∷_}
 use mathlib.Core.Option.{Option, none, some}
-use Prim.Native.Nat.{ℕ, zero, suc, _+_, _-_, _*_, _/_, _%_, _^_, _<_, _≤_, zero-le}
+use Prim.Native.Nat.{ℕ, suc, _^_, zero-le}
 use native.Mathlib.Omega.{arith}
-use lib.Dec.{T, eqb, leb, ltb, lit<, lit≤}
-use lib.IntN.{ℤ, pos, negsuc}
+use lib.Dec.{eqb, leb, ltb}
+use lib.IntN.{ℤ}
 use lib.Signed.{mag}
 use lib.ListN.{length}
 use borrow.Author.Tests.{leb-true, eqb-true, ltb-true}
-use Rattle.format.specs.Limits.{powerOk, maxId}
+use Rattle.format.specs.Limits.{maxId}
 use Rattle.format.specs.Refusals.{Outcome, done, refused, andThen, need, needNone}
 use Rattle.format.specs.Bytes.{same}
-use Rattle.format.specs.Ids.{blocks}
 use Rattle.format.specs.Values.{fits64}
 use Rattle.format.specs.Pairs.{Pairs, Below, Asc, Each, Fits, Valid}
-use Rattle.format.specs.Column.{column}
+use Rattle.format.specs.Column.{column, headOf}
 use Rattle.format.specs.Writer.{notAbove, orderFault, rangeFault, write}
-use Rattle.format.specs.Opening.{Opened, openColumn}
-use Rattle.format.specs.Check.{pairsIn, allFit, isDone, isColumn, accepted, check, reading}
-use Rattle.format.proofs.RoundTrip.{the-column, opened, pairs-back}
+use Rattle.format.specs.Opening.{Opened, headOk, lengthOk, openColumn}
+use Rattle.format.specs.Check.{pairsIn, allFit, isDone, isColumn, accepted}
+use Rattle.format.proofs.RoundTrip.{h, the-column, opened, pairs-back}
 
 -- ---- a step that was passed
 
@@ -38,6 +37,11 @@ module _ {A : Type 0} where
   unfolding needNone
   needed-none none why next a e = (refl, e)
   needed-none (some i) why next a e = absurd (let z : _≡_ {A = ℕ} 0 1 = cc in omega arith)
+
+pub passed : {A B : Type 0} (o : Outcome A) (f : A → Outcome B) (b : B) → andThen o f ≡ done b → (a : A) × (o ≡ done a) × (f a ≡ done b)
+unfolding andThen
+passed (done a) f b e = (a, refl, e)
+passed (refused why w) f b e = absurd (let z : _≡_ {A = ℕ} 0 1 = cc in omega arith)
 
 pub both-true : (a b : Bool) → a && b ≡ true → (a ≡ true) × (b ≡ true)
 both-true true b e = (refl, e)
@@ -115,10 +119,32 @@ accepted-is bytes c q e =
     (written-valid (c .head .power) (pairsIn bytes c .ids) (pairsIn bytes c .values) (length bytes) bytes (fitting (pairsIn bytes c .values) (b .0))
     (is-done _ bytes (b .1)))
 
+-- it is opened as that column is
+pub opened-as : (bytes : List ℕ) (c : Opened) (p : ℕ) (ids : List ℕ) (vs : List ℤ) (ok : Valid p ids vs) → openColumn bytes ≡ done c
+    → column p ids vs ≡ bytes → the-column p ids vs ok ≡ c
+opened-as bytes c p ids vs ok o e = ap (result c) (sym (opened p ids vs ok) ∙ ap openColumn e ∙ o)
+
+-- with its count
+pub its-count : (bytes : List ℕ) (c : Opened) (q : Pairs) → openColumn bytes ≡ done c → accepted bytes c ≡ done q → length (q .ids) ≡ c .head .count
+unfolding the-column headOf h
+its-count bytes c q o a =
+    let s = accepted-is bytes c q a in
+    ap (λ (c : Opened). c .head .count) (opened-as bytes c (c .head .power) (q .ids) (q .values) (s .0) o (s .1))
+
+-- what is opened has a header that breaks no rule, and its length
+pub opened-ok : (bytes : List ℕ) (c : Opened) → openColumn bytes ≡ done c → (headOk (c .head) ≡ true) × (lengthOk bytes c ≡ true)
+unfolding openColumn
+opened-ok bytes c e =
+    let s1 = passed _ _ c e in
+    let s2 = needed _ _ _ _ c (s1 .2) in
+    let s3 = passed _ _ c (s2 .1) in
+    let s4 = needed _ _ _ _ c (s3 .2) in
+    let s5 = needed _ _ _ _ c (s4 .1) in
+    subst (λ (c : Opened). (headOk (c .head) ≡ true) × (lengthOk bytes c ≡ true)) (ap (result c) (s5 .1)) (s4 .0, s5 .0)
+
 -- there is just one list
 pub one-list : (p p′ : ℕ) (ids ids′ : List ℕ) (vs vs′ : List ℤ) → Valid p ids vs → Valid p′ ids′ vs′ → column p ids vs ≡ column p′ ids′ vs′
     → _≡_ {A = Pairs} (record { ids = ids; values = vs }) (record { ids = ids′; values = vs′ })
 one-list p p′ ids ids′ vs vs′ ok ok′ e =
-    let c : the-column p ids vs ok ≡ the-column p′ ids′ vs′ ok′ =
-    ap (result (the-column p ids vs ok)) (sym (opened p ids vs ok) ∙ ap openColumn e ∙ opened p′ ids′ vs′ ok′) in
+    let c : the-column p ids vs ok ≡ the-column p′ ids′ vs′ ok′ = opened-as _ _ p ids vs ok (opened p′ ids′ vs′ ok′) e in
     sym (pairs-back p ids vs ok) ∙ ap₂ pairsIn e c ∙ pairs-back p′ ids′ vs′ ok′

@@ -1,20 +1,16 @@
 -- The stored numbers stand for the values. Assumes nothing.
 use mathlib.Core.Path.{_≡_, refl, sym, ap, ap₂, _∙_, subst}
 use mathlib.Core.Bool.{Bool, true, false, cond, not}
-use mathlib.Core.List.{List, [], _∷_, _++_, map}
-use Prim.Native.Nat.{ℕ, zero, suc, _+_, _-_, _*_, _/_, _%_, _^_, _<_, _≤_, _∣_}
-use native.Mathlib.Nat.{dvd-refl, dvd-zero, dvd-trans, dvd-add, dvd-sub, dvd-mod-iff, one-dvd, mul-div-cancel', mod-lt, zero-lt-suc, le-trans, add-suc, suc-add}
+use mathlib.Core.List.{List, [], _∷_, map}
+use Prim.Native.Nat.{ℕ, zero, suc, _+_, _-_, _/_, _%_, _^_, _<_, _≤_, _∣_, zero-le, suc-le-suc}
+use native.Mathlib.Nat.{dvd-refl, dvd-zero, dvd-trans, dvd-add, dvd-sub, dvd-mod-iff, one-dvd, mul-div-cancel', mod-lt, zero-lt-suc, le-trans, pow-zero, pow-succ', add-comm, lt-of-le-of-lt, le-div-iff-mul-le, div-mul-le-self}
 use native.Mathlib.Omega.{arith}
-use lib.Dec.{T, eqb, leb, ltb, leb→le, le→leb, nleb→lt}
-use lib.IntN.{ℤ, pos, negsuc, negℤ, natAbs, subℕ, _+ℤ_, _-ℤ_, +ℤ-comm, -ℤ-+ℤ-cancel}
+use lib.Dec.{T, eqb, leb→le, le→leb, nleb→lt, lit<}
+use lib.IntN.{ℤ, pos, negsuc, negℤ, natAbs, subℕ, _+ℤ_, _-ℤ_, +ℤ-comm, -ℤ-+ℤ-cancel, +ℤ-assoc, +ℤ-invl, +ℤ-idl}
 use lib.Signed.{leZ, nonNeg, pos-natAbs}
 use borrow.Author.Tests.{lt-ltb, le-ltb}
 use Rattle.format.specs.Values.{leastOf, mostOf, smallest, greatest, over, gcdIn, gcd, gcdOf, divisor, stored, valueAt, spread, bitsIn, bitLength, width}
 use Rattle.format.specs.Pairs.{Below, Each}
-use native.Mathlib.Nat.{pow-zero, pow-succ', add-comm, lt-of-le-of-lt, le-div-iff-mul-le, div-mul-le-self}
-use Prim.Native.Nat.{zero-le, suc-le-suc}
-use lib.Dec.{lit<}
-use lib.IntN.{+ℤ-assoc, +ℤ-invl, +ℤ-idl}
 use Rattle.format.proofs.Cases.{below-or}
 
 -- ---- each of a list
@@ -171,7 +167,7 @@ unfolding smallest
 smallest-each [] = tt
 smallest-each (v ∷ vs) = (least-first v vs, least-each v vs)
 
-smallest-has : (P : ℤ → Type 0) (v : ℤ) (vs : List ℤ) → Each P (v ∷ vs) → P (smallest (v ∷ vs))
+pub smallest-has : (P : ℤ → Type 0) (v : ℤ) (vs : List ℤ) → Each P (v ∷ vs) → P (smallest (v ∷ vs))
 unfolding smallest
 smallest-has P v vs t = least-has P v vs (t .0) (t .1)
 
@@ -190,7 +186,7 @@ pub divides-each : (vs : List ℤ) → Each (λ v. divisor vs ∣ over (smallest
 divides-each [] = tt
 divides-each (v ∷ vs) = each-map (divides-one v vs) (v ∷ vs) (gcdOf-each 0 (v ∷ vs))
 
-each-two : {P Q R : ℤ → Type 0} → ((v : ℤ) → P v → Q v → R v) → (vs : List ℤ) → Each P vs → Each Q vs → Each R vs
+pub each-two : {P Q R : ℤ → Type 0} → ((v : ℤ) → P v → Q v → R v) → (vs : List ℤ) → Each P vs → Each Q vs → Each R vs
 each-two f [] s t = tt
 each-two f (v ∷ vs) s t = (f v (s .0) (t .0), each-two f vs (s .1) (t .1))
 
@@ -270,7 +266,7 @@ most-each m [] = tt
 most-each m (v ∷ vs) =
     (leZ-trans v (greater m v) (mostOf (greater m v) vs) (greater-right m v) (most-first (greater m v) vs), most-each (greater m v) vs)
 
-greatest-each : (vs : List ℤ) → Each (λ v. T (leZ v (greatest vs))) vs
+pub greatest-each : (vs : List ℤ) → Each (λ v. T (leZ v (greatest vs))) vs
 unfolding greatest
 greatest-each [] = tt
 greatest-each (v ∷ vs) = (most-first v vs, most-each v vs)
@@ -279,7 +275,7 @@ over-le : (a c b : ℤ) → T (leZ a b) → T (leZ b c) → over a b ≤ over a 
 over-le a c b h k = omega (arith, over-add a b c h k)
 
 -- no value is further from the smallest than the greatest
-spread-each : (vs : List ℤ) → Each (λ v. over (smallest vs) v ≤ spread vs) vs
+pub spread-each : (vs : List ℤ) → Each (λ v. over (smallest vs) v ≤ spread vs) vs
 unfolding spread
 spread-each vs =
     each-two (over-le (smallest vs) (greatest vs)) vs (smallest-each vs) (greatest-each vs)

@@ -1,35 +1,34 @@
 -- The walk over a column's blocks answers as the pair list does, and so as the look-up. Assumes nothing.
-use mathlib.Core.Path.{_≡_, refl, sym, ap, ap₂, _∙_, subst}
-use mathlib.Core.Bool.{Bool, true, false, cond, not, _&&_, _||_}
-use mathlib.Core.List.{List, [], _∷_, _++_, map, append-assoc}
-use mathlib.Core.Option.{Option, none, some}
-use Prim.Native.Nat.{ℕ, zero, suc, _+_, _-_, _*_, _/_, _%_, _^_, _<_, _≤_, zero-le}
+use mathlib.Core.Path.{_≡_, refl, sym, ap, ap₂, _∙_}
+use mathlib.Core.Bool.{Bool, true, false, cond}
+use mathlib.Core.List.{List, [], _∷_, _++_, append-assoc}
+use mathlib.Core.Option.{none, some}
+use Prim.Native.Nat.{ℕ, zero, suc, _+_, _*_, _/_, _%_, _<_, _≤_}
 use native.Mathlib.Nat.{zero-add, add-zero, add-assoc, div-add-mod'}
 use native.Mathlib.Omega.{arith}
-use lib.Dec.{eqb, leb, ltb}
-use lib.IntN.{ℤ, pos, negsuc}
-use lib.ListN.{length, getD, take, drop}
+use lib.Dec.{eqb}
+use lib.IntN.{ℤ, pos}
+use lib.ListN.{length, getD, drop}
 use lib.Seq.{drop-at, drop-drop}
 use borrow.Author.Tests.{eq-eqb, ne-eqb, lt-ltb, le-ltb}
 use Rattle.format.specs.Refusals.{Outcome, done}
-use Rattle.format.specs.Bytes.{bytesOf, lowAt}
-use Rattle.format.specs.Ids.{Run, runs, idSection, jumps, blocks, blockOf, blockBytes, blockData, endBlock, entryBytes, countBelow}
-use Rattle.format.specs.IdsRead.{idsOf, placesIn}
+use Rattle.format.specs.Bytes.{bytesOf}
+use Rattle.format.specs.Ids.{Run, runs, idSection, jumps, blocks, blockOf, blockBytes, endBlock, entryBytes, countBelow}
 use Rattle.format.specs.Pairs.{Asc, Valid}
 use Rattle.format.specs.Column.{column, headOf}
-use Rattle.format.specs.Opening.{Opened, openColumn, idPart, valueOf}
+use Rattle.format.specs.Opening.{Opened, idPart, valueOf}
 use Rattle.format.specs.LookUp.{Look, found, absent, lookUp}
-use Rattle.format.specs.Walk.{listed, words, indexOf, seenOr, walkFrom, walk, Seen, seen, unseen, wordless}
+use Rattle.format.specs.Walk.{listed, words, indexOf, seenOr, walkFrom, walk, Seen, seen, unseen, wordless, listAnswer}
 use Rattle.format.proofs.Cases.{below-or, equal-or}
-use Rattle.format.proofs.Section.{totalBytes, length-blockOf}
+use Rattle.format.proofs.Section.{length-blockOf}
 use Rattle.format.proofs.Blocks.{Fine, AllFine, places-back}
 use Rattle.format.proofs.Runs.{ids-runs}
 use Rattle.format.proofs.Jumps.{AscBlocks, idsUnder, none-under}
-use Rattle.format.proofs.Find.{placesOf, no-places, count-runs, listed-runs, count-lt, count-length}
+use Rattle.format.proofs.Find.{placesOf, no-places, count-runs, listed-runs, count-lt}
 use Rattle.format.proofs.Place.{listed-higher, count-higher}
 use Rattle.format.proofs.Skip.{number-read, count-read, data-read, end-read}
 use Rattle.format.proofs.RoundTrip.{h, the-column, ids-part, blocks-asc, blocks-fine, section-is, power-le, runs-le}
-use Rattle.format.proofs.Looked.{value-is, by-block, by-list, looked}
+use Rattle.format.proofs.Looked.{value-is, by-list, looked}
 
 index-is : (r i a : ℕ) (rs : List ℕ) → Asc a rs → indexOf r i rs ≡ cond (listed r rs) (some (i + countBelow r rs)) none
 unfolding indexOf listed countBelow
@@ -168,3 +167,11 @@ module _ (p : ℕ) (ids : List ℕ) (vs : List ℤ) (ok : Valid p ids vs) (id : 
           ≡ cond q (seen (countBelow id ids) (getD vs (countBelow id ids) (pos 0))) unseen
       go true = refl
       go false = refl
+
+  -- the same, in the definitions' own words
+  pub look-up-answers : lookUp (column p ids vs) id ≡ done (listAnswer p ids vs id)
+  unfolding listAnswer
+  look-up-answers = look-up-walks
+
+  pub walk-answers : walk (column p ids vs) (the-column p ids vs ok) id ≡ wordless (listAnswer p ids vs id)
+  walk-answers = sym (same-answer (listAnswer p ids vs id) look-up-answers)

@@ -170,17 +170,9 @@ module _ (p : ℕ) (s : List ℕ) (at next k c : ℕ) where
       unfolding blockReason
       reason-places x = rw (fit, le-leb next k l, le-leb k 32765 m, x)
 
-      pub reason-ones : placesOk s (at + 4) c ≡ true → onesOk p s (at + 4) c ≡ false → 4 ≡ blockReason p s at next k c
+      pub reason-words : (r : ℕ) → placesOk s (at + 4) c ≡ true → r ≡ cond (onesOk p s (at + 4) c) (cond (ranksOk p s (at + 4) c) 0 5) 4 → r ≡ blockReason p s at next k c
       unfolding blockReason
-      reason-ones x y = rw (fit, le-leb next k l, le-leb k 32765 m, x, y)
-
-      pub reason-ranks : placesOk s (at + 4) c ≡ true → onesOk p s (at + 4) c ≡ true → ranksOk p s (at + 4) c ≡ false → 5 ≡ blockReason p s at next k c
-      unfolding blockReason
-      reason-ranks x y z = rw (fit, le-leb next k l, le-leb k 32765 m, x, y, z)
-
-      pub reason-none : placesOk s (at + 4) c ≡ true → onesOk p s (at + 4) c ≡ true → ranksOk p s (at + 4) c ≡ true → 0 ≡ blockReason p s at next k c
-      unfolding blockReason
-      reason-none x y z = rw (fit, le-leb next k l, le-leb k 32765 m, x, y, z)
+      reason-words r x e = rw (fit, le-leb next k l, le-leb k 32765 m, x) e
 
 pub end-cut : (s : List ℕ) (at : ℕ) → length s < at + 6 → 1 ≡ endReason s at
 unfolding endReason

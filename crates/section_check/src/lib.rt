@@ -7,11 +7,10 @@ ghost use Rattle.format.specs.Bytes.{same};
 ghost use Rattle.format.specs.Ids.{entryBytes, jumpsFrom, notTwo};
 ghost use Rattle.format.specs.IdsRead.{readRuns};
 ghost use Rattle.format.specs.Limits.{Power};
-ghost use Rattle.judge.specs.Judge.{Ended, judgeFrom, judgeEntries, judgeRest, judge, judgeSection};
+ghost use Rattle.judge.specs.Judge.{judgeFrom, judgeEntries, judgeRest, judge, judgeSection};
 ghost use Rattle.section_check.specs.Reasons.{blockReason, endReason, Repeats, endedAt, walkedOf, placedOf, judgedOf};
-use block_check::ones_ok;
 use block_check::places_ok;
-use block_check::ranks_ok;
+use block_check::words_reason;
 use blocks::data_bytes;
 use numbers::int_at;
 use numbers::long;
@@ -52,13 +51,7 @@ fn block_reason(s: &[u8], at: usize, next: u64, k: u64, c: usize, p: usize) -> u
     if !places_ok(s, t, c, p) {
         return 3;
     }
-    if !ones_ok(s, t, c, p) {
-        return 4;
-    }
-    if !ranks_ok(s, t, c, p) {
-        return 5;
-    }
-    0
+    words_reason(s, t, c, p)
 }
 
 fn end_reason(s: &[u8], at: usize) -> u64

@@ -3,7 +3,7 @@ use mathlib.Core.Path.{sym, _∙_}
 use Prim.Native.Nat.{_-_}
 use native.Mathlib.Omega.{arith}
 use borrow.Author.Needs.{needs}
-use Rattle.section_check.proofs.Turns.{reason-cut, reason-low, reason-high, reason-places, reason-ones, reason-ranks, reason-none}
+use Rattle.section_check.proofs.Turns.{reason-cut, reason-low, reason-high, reason-places, reason-words}
 use borrow.Author.Tests.{not-true, not-false}
 use Rattle.section_check.proofs.block_reason.Statement.{statement}
 use Rattle.section_check.proofs.block_reason.Tie as tie
@@ -32,20 +32,16 @@ places-ok-requires c κs = search needs
 returns-4 : tie.Need-returns-4
 returns-4 c = let a = c .before .before .before .before .before .before .before .args in let e = c .before .before .before .before .before .data-bytes .ensures .0 in reason-places (a .p) (a .s .now) (a .at) (a .next) (a .k) (a .c) (omega arith) (omega arith) (omega arith) (sym (c .before .places-ok .ensures) ∙ not-true _ (c .if4 .taken))
 
-ones-ok-requires : tie.Need-ones-ok-requires
-ones-ok-requires c κs = search needs
+words-reason-requires : tie.Need-words-reason-requires
+words-reason-requires c κs = search needs
 
 returns-5 : tie.Need-returns-5
-returns-5 c = let a = c .before .before .before .before .before .before .before .before .before .args in let e = c .before .before .before .before .before .before .before .data-bytes .ensures .0 in reason-ones (a .p) (a .s .now) (a .at) (a .next) (a .k) (a .c) (omega arith) (omega arith) (omega arith) (sym (c .before .before .before .places-ok .ensures) ∙ not-false _ (c .before .before .if4 .left)) (sym (c .before .ones-ok .ensures) ∙ not-true _ (c .if5 .taken))
-
-ranks-ok-requires : tie.Need-ranks-ok-requires
-ranks-ok-requires c κs = search needs
-
-returns-6 : tie.Need-returns-6
-returns-6 c = let a = c .before .before .before .before .before .before .before .before .before .before .before .args in let e = c .before .before .before .before .before .before .before .before .before .data-bytes .ensures .0 in reason-ranks (a .p) (a .s .now) (a .at) (a .next) (a .k) (a .c) (omega arith) (omega arith) (omega arith) (sym (c .before .before .before .before .before .places-ok .ensures) ∙ not-false _ (c .before .before .before .before .if4 .left)) (sym (c .before .before .before .ones-ok .ensures) ∙ not-false _ (c .before .before .if5 .left)) (sym (c .before .ranks-ok .ensures) ∙ not-true _ (c .if6 .taken))
-
-returns-7 : tie.Need-returns-7
-returns-7 c = let a = c .before .before .before .before .before .before .before .before .before .before .before .args in let e = c .before .before .before .before .before .before .before .before .before .data-bytes .ensures .0 in reason-none (a .p) (a .s .now) (a .at) (a .next) (a .k) (a .c) (omega arith) (omega arith) (omega arith) (sym (c .before .before .before .before .before .places-ok .ensures) ∙ not-false _ (c .before .before .before .before .if4 .left)) (sym (c .before .before .before .ones-ok .ensures) ∙ not-false _ (c .before .before .if5 .left)) (sym (c .before .ranks-ok .ensures) ∙ not-false _ (c .if6 .left))
+returns-5 c =
+    let b = c .before .before in
+    let d = b .before .before .before .before in
+    let a = d .before .before .args in
+    let e = d .data-bytes .ensures .0 in
+    reason-words (a .p) (a .s .now) (a .at) (a .next) (a .k) (a .c) (omega arith) (omega arith) (omega arith) _ (sym (b .places-ok .ensures) ∙ not-false _ (c .before .if4 .left)) (c .words-reason .ensures)
 
 pub block-reason-spec : {M : Type 1} → statement M
 block-reason-spec =
@@ -59,8 +55,5 @@ block-reason-spec =
     returns-3
     places-ok-requires
     returns-4
-    ones-ok-requires
-    returns-5
-    ranks-ok-requires
-    returns-6
-    returns-7)
+    words-reason-requires
+    returns-5)

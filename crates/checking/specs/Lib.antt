@@ -1,0 +1,2 @@
+-- The tests of an opened column.
+pub mod Tests

@@ -1,0 +1,22 @@
+-- The tests of an opened column: its id section is judged with the header's numbers, then its value section is tested.
+-- Assumes nothing.
+use Prim.Native.Nat.{ℕ}
+use mathlib.Core.Bool.{Bool, false, _&&_}
+use mathlib.Core.List.{List}
+use lib.Dec.{eqb}
+use Rattle.format.specs.Refusals.{Outcome, done, refused}
+use Rattle.format.specs.Column.{Head}
+use Rattle.format.specs.Opening.{Opened, idPart, valuePart}
+use Rattle.judge.specs.Judge.{judge}
+use Rattle.value_check.specs.ValuesOk.{valuesOk}
+
+-- the judge accepts n ids
+unfoldable pub holds : ℕ → Outcome ℕ → Bool
+holds n (done m) = eqb m n
+holds n (refused why at) = false
+
+unfoldable pub idsOk : Head → List ℕ → Bool
+idsOk h s = holds (h .count) (judge (h .power) (h .jumpCount) s)
+
+unfoldable pub columnOk : List ℕ → Opened → Bool
+columnOk bytes c = idsOk (c .head) (idPart bytes c) && valuesOk (c .head) (valuePart bytes c)

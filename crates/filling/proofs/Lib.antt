@@ -1,0 +1,2 @@
+-- Laws of buffers that are filled.
+pub mod Fill

@@ -1,0 +1,289 @@
+-- That the definitions mean document 01's words where a reader could doubt it: smallest and greatest, the greatest common divisor, the
+-- least width, packed bits, the bitmap, rank entries, jump entries. Assumes nothing.
+use mathlib.Core.Path.{_≡_, refl, sym, ap, ap₂, _∙_, subst}
+use mathlib.Core.Bool.{Bool, true, false, cond, not}
+use mathlib.Core.List.{List, [], _∷_, append-nil}
+use Prim.Native.Nat.{ℕ, zero, suc, _+_, _-_, _*_, _/_, _%_, _^_, _<_, _≤_, _∣_}
+use native.Mathlib.Nat.{dvd-zero, dvd-mod-iff, mod-lt, zero-lt-suc, zero-add, add-zero, zero-div, zero-mod, mul-le-mul-right, suc-mul}
+use native.Mathlib.Omega.{arith}
+use lib.Dec.{T}
+use lib.IntN.{ℤ, pos, natAbs, _+ℤ_, +ℤ-invr, +ℤ-idr}
+use lib.Signed.{leZ}
+use lib.ListN.{length, getD, drop, List·getD-eq-default}
+use lib.Pow.{pow-add, pow-pos}
+use lib.Arith.{digits-div, digits-mod}
+use borrow.Author.Tests.{eq-eqb, ne-eqb, lt-ltb, le-ltb, eqb-true, eqb-false}
+use Rattle.format.specs.Limits.{blockPlaces, maxPower, maxId}
+use Rattle.format.specs.Bytes.{low, lowAt, highAt, bytesOf}
+use Rattle.format.specs.Bits.{bitOf, bitAt, bitBytes, packed, fetched}
+use Rattle.format.specs.Ids.{Run, Entry, runs, push, blockOf, blocks, bitmap, countBelow, rankTable, jumpsFrom}
+use Rattle.format.specs.IdsRead.{idsOf}
+use Rattle.format.specs.Values.{smallest, greatest, over, spread, gcdIn, gcd, gcdOf, divisor, bitsIn, bitLength, width}
+use Rattle.format.specs.Pairs.{Asc, Below, Each}
+use Rattle.format.specs.Walk.{listed}
+use Rattle.format.proofs.Cases.{below-or, equal-or}
+use Rattle.format.proofs.Values as Values
+use Rattle.format.proofs.Values.{each-map, smallest-each, smallest-has, most-has, greatest-each, spread-each, over-back, gcdOf-each, bit-length, bit-length-le}
+use Rattle.format.proofs.Bits.{bit-tabulate, bit-lt, bit-past, length-packed, fetched-packed}
+use Rattle.format.proofs.Ones.{occurs, bit-is, count-zero}
+use Rattle.format.proofs.Dense.{bit-at, rank-at}
+use Rattle.format.proofs.Find.{occurs-listed, placesOf, count-runs}
+use Rattle.format.proofs.Place.{count-higher}
+use Rattle.format.proofs.Section.{length-blocks}
+use Rattle.format.proofs.Runs.{ids-runs, fine-runs}
+use Rattle.format.proofs.Jumps.{AscBlocks, asc-blocks, endOf, idsUnder, bytesUnder, length-jumps, entry-is}
+use Rattle.format.proofs.Skip.{fromB, skip, bytes-under-le}
+
+-- ---- smallest and greatest
+
+-- x stands in the list
+abbrev pub Among : ℤ → List ℤ → Type 0
+Among x vs = (i : ℕ) × (i < length vs) × (getD vs i (pos 0) ≡ x)
+
+each-among : (vs : List ℤ) → Each (λ x. Among x vs) vs
+each-among [] = tt
+each-among (v ∷ vs) = ((0, omega arith, refl), each-map (λ x a. (suc (a .0), omega (arith, a .1), a .2)) vs (each-among vs))
+
+-- the smallest is at most each value, and one of them; the greatest likewise
+pub smallest-least : (vs : List ℤ) → Each (λ v. T (leZ (smallest vs) v)) vs
+smallest-least = smallest-each
+
+pub smallest-among : (v : ℤ) (vs : List ℤ) → Among (smallest (v ∷ vs)) (v ∷ vs)
+smallest-among v vs = smallest-has (λ x. Among x (v ∷ vs)) v vs (each-among (v ∷ vs))
+
+pub greatest-most : (vs : List ℤ) → Each (λ v. T (leZ v (greatest vs))) vs
+greatest-most = greatest-each
+
+greatest-has : (P : ℤ → Type 0) (v : ℤ) (vs : List ℤ) → Each P (v ∷ vs) → P (greatest (v ∷ vs))
+unfolding greatest
+greatest-has P v vs t = most-has P v vs (t .0) (t .1)
+
+pub greatest-among : (v : ℤ) (vs : List ℤ) → Among (greatest (v ∷ vs)) (v ∷ vs)
+greatest-among v vs = greatest-has (λ x. Among x (v ∷ vs)) v vs (each-among (v ∷ vs))
+
+-- ---- the divisor
+
+gcd-great : (d f a b : ℕ) → b < f → d ∣ a → d ∣ b → d ∣ gcdIn f a b
+unfolding gcdIn
+gcd-great d zero a b h p q = absurd (omega arith)
+gcd-great d (suc f) a zero h p q = p
+gcd-great d (suc f) a (suc b) h p q =
+    gcd-great d f (suc b) (a % suc b) (omega (arith, mod-lt a (zero-lt-suc b))) q (dvd-mod-iff d q .1 p)
+
+gcdOf-great : (d g : ℕ) (vs : List ℤ) → d ∣ g → Each (λ v. d ∣ natAbs v) vs → d ∣ gcdOf g vs
+unfolding gcdOf gcd
+gcdOf-great d g [] p t = p
+gcdOf-great d g (v ∷ vs) p t =
+    gcdOf-great d (gcd g (natAbs v)) vs (gcd-great d (suc (natAbs v)) g (natAbs v) (omega arith) p (t .0)) (t .1)
+
+-- `gcdOf 0 vs` divides each value without its sign, and each number that does so divides it
+pub divides-all : (vs : List ℤ) → Each (λ v. gcdOf 0 vs ∣ natAbs v) vs
+divides-all = gcdOf-each 0
+
+pub divided-by-all : (vs : List ℤ) (d : ℕ) → Each (λ v. d ∣ natAbs v) vs → d ∣ gcdOf 0 vs
+divided-by-all vs d t = gcdOf-great d 0 vs (dvd-zero d) t
+
+-- all values are equal exactly if max - min is 0
+abbrev pub AllEqual : List ℤ → Type 0
+AllEqual vs = Each (λ v. v ≡ smallest vs) vs
+
+over-self : (m : ℤ) → over m m ≡ 0
+over-self m = ap natAbs (+ℤ-invr m)
+
+equal-spread : (vs : List ℤ) → AllEqual vs → spread vs ≡ 0
+unfolding spread smallest greatest
+equal-spread [] t = over-self (pos 0)
+equal-spread (v ∷ vs) t =
+    ap (over (smallest (v ∷ vs))) (greatest-has (λ x. x ≡ smallest (v ∷ vs)) v vs t) ∙ over-self (smallest (v ∷ vs))
+
+spread-equal : (vs : List ℤ) → spread vs ≡ 0 → AllEqual vs
+spread-equal vs e =
+    Values.each-two (λ v l k. same v l (omega (arith, k))) vs (smallest-each vs) (spread-each vs)
+  where
+    same : (v : ℤ) → T (leZ (smallest vs) v) → over (smallest vs) v ≡ 0 → v ≡ smallest vs
+    same v l z = sym (over-back (smallest vs) v l) ∙ ap (λ (n : ℕ). smallest vs +ℤ pos n) z ∙ +ℤ-idr (smallest vs)
+
+-- if all values are equal: g 1, w 0
+pub equal-divisor : (vs : List ℤ) → AllEqual vs → divisor vs ≡ 1
+unfolding divisor
+equal-divisor vs t = rw (eq-eqb (spread vs) 0 (equal-spread vs t))
+
+pub equal-width : (vs : List ℤ) → AllEqual vs → width vs ≡ 0
+unfolding width bitLength bitsIn
+equal-width vs t = rw (equal-divisor vs t, equal-spread vs t)
+
+-- otherwise g is the greatest common divisor
+pub other-divisor : (vs : List ℤ) → (AllEqual vs → ⊥) → divisor vs ≡ gcdOf 0 vs
+unfolding divisor
+other-divisor vs k = rw (ne-eqb (spread vs) 0 (λ e. k (spread-equal vs e)))
+
+-- ---- the width: the least w with (max - min) / g < 2 ^ w
+
+pub width-holds : (vs : List ℤ) → spread vs / divisor vs < 2 ^ width vs
+unfolding width
+width-holds vs = bit-length (spread vs / divisor vs)
+
+pub width-least : (vs : List ℤ) (w : ℕ) → spread vs / divisor vs < 2 ^ w → width vs ≤ w
+unfolding width
+width-least vs w h = bit-length-le (spread vs / divisor vs) w h
+
+-- ---- packed numbers
+
+-- number i fills bits iw to iw + w - 1, the high bit first
+pub bit-place : (w : ℕ) (xs : List ℕ) (i k : ℕ) → k < w → bitOf w xs (i * w + k) ≡ getD xs i 0 / 2 ^ (w - 1 - k) % 2
+unfolding bitOf
+bit-place w xs i k h = rw (digits-div i h, digits-mod i h)
+
+-- the bytes hold these bits
+pub packed-bits : (w : ℕ) (xs : List ℕ) (j : ℕ) → j < 8 * length (packed w xs) → bitAt (packed w xs) j ≡ bitOf w xs j
+unfolding packed bitAt bitOf
+packed-bits w xs j h =
+    bit-tabulate (bitOf w xs) (bit-lt w xs) 8 (bitBytes (length xs * w)) j (omega (arith, length-packed w xs))
+
+-- spare bits are 0
+pub packed-spare : (w : ℕ) (xs : List ℕ) (j : ℕ) → length xs * w ≤ j → bitAt (packed w xs) j ≡ 0
+unfolding bitAt
+packed-spare w xs j h =
+    below-or j (8 * length (packed w xs))
+    (λ l. packed-bits w xs j l ∙ bit-past w xs j (some-width w (omega (arith, length-packed w xs))) h)
+    (λ l. rw (List·getD-eq-default (packed w xs) 0 {n = j / 8} (omega arith), zero-div, zero-mod))
+  where
+    some-width : (w : ℕ) → 0 < (length xs * w + 7) / 8 → 0 < w
+    some-width zero l = absurd (omega arith)
+    some-width (suc w) l = omega arith
+
+-- and number i is fetched
+pub packed-number : (w : ℕ) (xs : List ℕ) (i : ℕ) → i < length xs → getD xs i 0 < 2 ^ w → fetched (packed w xs) w i ≡ getD xs i 0
+packed-number = fetched-packed
+
+-- ---- dense blocks
+
+-- place x is bit x mod 64 of long x div 64
+pub bitmap-bit : (rs : List ℕ) (x : ℕ) → Asc 0 rs → x < blockPlaces
+    → lowAt 8 (low 8192 (bitmap rs)) (8 * (x / 64)) / 2 ^ (x % 64) % 2 ≡ cond (listed x rs) 1 0
+bitmap-bit rs x t h =
+    ap (λ (n : ℕ). lowAt 8 (low 8192 (bitmap rs)) n / 2 ^ (x % 64) % 2) (sym (zero-add (8 * (x / 64))))
+    ∙ bit-at (low 8192 (bitmap rs)) 0 (bitmap rs) [] (sym (append-nil (low 8192 (bitmap rs)))) x h
+    ∙ bit-is x rs t
+    ∙ go (listed x rs) refl
+  where
+    few : occurs x rs < 2
+    few = omega (arith, bit-is x rs t, mod-lt (bitmap rs / 2 ^ x) (zero-lt-suc 1))
+
+    go : (q : Bool) → listed x rs ≡ q → occurs x rs ≡ cond (listed x rs) 1 0
+    go true e = rw e (omega (arith, few, eqb-false (occurs x rs) 0 (occurs-listed x rs ∙ ap not e)))
+    go false e = rw e (eqb-true (occurs x rs) 0 (occurs-listed x rs ∙ ap not e))
+
+-- rank entry t, high byte first, counts the places below t * 2 ^ p
+pub rank-entry : (p : ℕ) (rs : List ℕ) (t : ℕ) → Asc 0 rs → 0 < p → p ≤ maxPower → t < 2 ^ (16 - p)
+    → highAt 2 (rankTable p rs) (2 * t) ≡ countBelow (t * 2 ^ p) rs
+rank-entry p rs t a hp hq h =
+    ap (highAt 2 (rankTable p rs)) (sym (zero-add (2 * t)))
+    ∙ rank-at p rs (rankTable p rs) 0 [] a (sym (append-nil (rankTable p rs))) t (λ e. omega arith) h within
+  where
+    sixteen : 16 - p + p ≡ 16
+    sixteen = omega arith
+
+    whole : 2 ^ (16 - p) * 2 ^ p ≡ 65536
+    whole = sym (pow-add 2 (16 - p) p) ∙ ap (λ (n : ℕ). 2 ^ n) sixteen
+
+    within : t * 2 ^ p < 65536
+    within = omega (arith, whole, mul-le-mul-right (2 ^ p) h, suc-mul t (2 ^ p), pow-pos p)
+
+-- ---- jump entries
+
+-- the blocks hold the ids, in order
+pub blocks-hold : (ids : List ℕ) → idsOf (runs ids) ≡ ids
+blocks-hold = ids-runs
+
+push-from : (b k r : ℕ) (gs : List Run) → k < b → fromB b (push k r gs) ≡ fromB b gs
+unfolding push fromB
+push-from b k r [] l = rw (lt-ltb k b l)
+push-from b k r (g ∷ gs) l =
+    equal-or k (g .block)
+    (λ e. rw (eq-eqb k (g .block) e, lt-ltb k b l, lt-ltb (g .block) b (omega arith)))
+    (λ e. rw (ne-eqb k (g .block) e, lt-ltb k b l))
+
+all-from : (b : ℕ) (gs : List Run) → AscBlocks b gs → fromB b gs ≡ gs
+unfolding fromB
+all-from b [] t = refl
+all-from b (g ∷ gs) t = rw (le-ltb (g .block) b (t .0))
+
+-- the blocks from b on are those of the ids from 65536 b on
+from-is : (b a : ℕ) (ids : List ℕ) → Asc a ids → fromB b (runs ids) ≡ runs (drop (countBelow (b * blockPlaces) ids) ids)
+unfolding runs countBelow fromB
+from-is b a [] t = refl
+from-is b a (i ∷ is) t =
+    below-or i (b * blockPlaces)
+    (λ l.
+    let one : 1 + countBelow (b * blockPlaces) is ≡ suc (countBelow (b * blockPlaces) is) = omega arith in
+    rw (lt-ltb i (b * blockPlaces) l, one)
+    (push-from b (i / blockPlaces) (i % blockPlaces) (runs is) (omega arith) ∙ from-is b (suc i) is (t .1)))
+    (λ l.
+    all-from b (runs (i ∷ is)) (asc-blocks b (i ∷ is) (l, t .1))
+    ∙ ap (λ (n : ℕ). runs (drop n (i ∷ is))) (sym (count-higher (b * blockPlaces) (b * blockPlaces) (i ∷ is) (omega arith) (l, t .1))))
+
+-- an entry of block b: the ids before the block, and the block's start, where the blocks of the other ids stand
+pub record EntryOf (p : ℕ) (ids : List ℕ) (b : ℕ) (e : Entry) : Type 0 where
+  pub ids-before : e .0 ≡ countBelow (b * blockPlaces) ids
+  pub start-within : e .1 ≤ length (blocks p ids)
+  pub blocks-there : drop (e .1) (blocks p ids) ≡ blocks p (drop (e .0) ids)
+
+pub jump-entry : (p : ℕ) (ids : List ℕ) (b : ℕ) → p ≤ maxPower → Asc 0 ids → Below (suc maxId) ids → b < length (jumpsFrom p 0 0 0 (runs ids))
+    → EntryOf p ids b (getD (jumpsFrom p 0 0 0 (runs ids)) b (0, 0))
+unfolding blocks
+jump-entry p ids b hp t r h =
+    subst (EntryOf p ids b)
+    (sym (entry-is p 0 0 0 b b (0, 0) (runs ids) asc (zero-add b) (omega (arith, length-jumps p 0 0 0 (runs ids) asc))))
+    record {
+      ids-before = rw zero-add before;
+      start-within = omega (arith, bytes-under-le p b (runs ids), length-blocks p (runs ids) (omega arith));
+      blocks-there =
+          rw (zero-add, zero-add)
+          (ap (drop (bytesUnder p b (runs ids))) (sym (append-nil (bytesOf (blockOf p) (runs ids))))
+          ∙ skip p b 0 (runs ids) [] (omega arith) asc
+          ∙ append-nil (bytesOf (blockOf p) (fromB b (runs ids)))
+          ∙ ap (bytesOf (blockOf p)) (from-is b 0 ids t ∙ ap (λ (n : ℕ). runs (drop n ids)) (sym before)));
+    }
+  where
+    asc : AscBlocks 0 (runs ids)
+    asc = asc-blocks 0 ids t
+
+    before : idsUnder b (runs ids) ≡ countBelow (b * blockPlaces) ids
+    before =
+        omega (
+          arith,
+          count-runs b 0 0 (runs ids) (omega arith) asc (fine-runs ids t r),
+          count-zero (placesOf b (runs ids)),
+          ap₂ countBelow (add-zero (b * blockPlaces)) (ids-runs ids),
+        )
+
+-- with last block B there are entries for 0 to B + 1
+push-end : (next m k r : ℕ) (g : Run) (gs : List Run) → endOf next (push k r (g ∷ gs)) ≡ endOf m (g ∷ gs)
+unfolding push endOf
+push-end next m k r g gs =
+    equal-or k (g .block)
+    (λ e. rw (eq-eqb k (g .block) e) (ap (λ (n : ℕ). endOf (suc n) gs) e))
+    (λ e. rw (ne-eqb k (g .block) e))
+
+push-some : (k r : ℕ) (gs : List Run) → (g : Run) × (back : List Run) × (push k r gs ≡ g ∷ back)
+unfolding push
+push-some k r [] = (record { block = k; places = r ∷ [] }, [], refl)
+push-some k r (g ∷ gs) =
+    equal-or k (g .block)
+    (λ e. (record { block = k; places = r ∷ g .places }, gs, rw (eq-eqb k (g .block) e)))
+    (λ e. (record { block = k; places = r ∷ [] }, g ∷ gs, rw (ne-eqb k (g .block) e)))
+
+end-is : (next i : ℕ) (is : List ℕ) → endOf next (runs (i ∷ is)) ≡ suc (getD (i ∷ is) (length is) 0 / blockPlaces)
+unfolding runs push endOf
+end-is next i [] = refl
+end-is next i (j ∷ is) =
+    let s = push-some (j / blockPlaces) (j % blockPlaces) (runs is) in
+    ap (λ (gs : List Run). endOf next (push (i / blockPlaces) (i % blockPlaces) gs)) (s .2)
+    ∙ push-end next next (i / blockPlaces) (i % blockPlaces) (s .0) (s .1)
+    ∙ ap (endOf next) (sym (s .2))
+    ∙ end-is next j is
+
+pub entry-count : (p i : ℕ) (is : List ℕ) → Asc 0 (i ∷ is)
+    → length (jumpsFrom p 0 0 0 (runs (i ∷ is))) ≡ getD (i ∷ is) (length is) 0 / blockPlaces + 2
+entry-count p i is t = omega (arith, length-jumps p 0 0 0 (runs (i ∷ is)) (asc-blocks 0 (i ∷ is) t), end-is 0 i is)

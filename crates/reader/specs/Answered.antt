@@ -1,0 +1,22 @@
+-- What a reading leaves: its reply, and the two buffers afterwards. Assumes nothing.
+use mathlib.Core.Path.{_≡_}
+use mathlib.Core.List.{List}
+use Prim.Native.Nat.{ℕ}
+use lib.IntN.{ℤ}
+use Rattle.format.specs.Refusals.{Outcome, done}
+use Rattle.format.specs.Pairs.{Pairs}
+use Rattle.format.specs.Opening.{Opened, openColumn}
+use Rattle.format.specs.Check.{pairsIn, accepted, readReply, idsAfter, valuesAfter}
+use Rattle.format.specs.Replies.{replyOf}
+use Rattle.format.specs.declared.Reply.{Reply}
+
+-- buffers of ids and values before, and after
+pub record Answered (o : Outcome Pairs) (r : Reply) (ids ids′ : List ℕ) (vs vs′ : List ℤ) : Type 0 where
+  pub reply : replyOf r ≡ readReply o
+  pub in-ids : ids′ ≡ idsAfter o ids
+  pub in-values : vs′ ≡ valuesAfter o vs
+
+-- bytes that were opened, and found to be a column
+pub record Whole (bytes : List ℕ) (c : Opened) : Type 0 where
+  pub opens : openColumn bytes ≡ done c
+  pub taken : accepted bytes c ≡ done (pairsIn bytes c)

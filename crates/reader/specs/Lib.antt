@@ -1,0 +1,2 @@
+-- What the reading promises on the way.
+pub mod Answered

@@ -1,0 +1,59 @@
+// Signalfern: score columns written, checked, read back and looked up. Each call can be handed any input at all; its promise fixes
+// the reply and every lent buffer afterwards by the definitions of crate format (document 01).
+ghost use mathlib.Core.Path.{_≡_};
+ghost use Prim.Native.Nat.{_≤_};
+ghost use lib.ListN.{length};
+ghost use Rattle.format.specs.Writer.{write, writeReply, writeOut};
+ghost use Rattle.format.specs.Check.{check, reading, readReply, idsAfter, valuesAfter};
+ghost use Rattle.format.specs.LookUp.{lookUp, lookUpIn};
+ghost use Rattle.format.specs.Walk.{strideWords};
+ghost use Rattle.format.specs.Replies.{replyOf, answerOf};
+ghost use Rattle.column.specs.Opened.{columnOf};
+ghost use Rattle.lookup.specs.Words.{wordsOf, FewWords};
+use column::Column;
+use format::Answer;
+use format::Reply;
+
+// Writes the column of the pairs (ids, values) at rank power `power` into `out` and hands back its byte count. Refusals 1 to 6 in
+// order, each over the whole input before the next; a refusal changes nothing, and success exactly the column's bytes.
+pub fn write(ids: &[u32], values: &[i64], power: u32, out: &mut [u8]) -> Reply
+    ensures replies { λ r. ⌜ replyOf r ≡ writeReply (write power (now (ids .entry)) (now (values .entry)) (length (now (out .entry)))) ⌝ }
+    ensures written { λ _. ⌜ now (out .exit) ≡ writeOut (write power (now (ids .entry)) (now (values .entry)) (length (now (out .entry)))) (now (out .entry)) ⌝ }
+{
+    writer::write(ids, values, power, out)
+}
+
+// Checks that the bytes are the column of some pair list, and hands back its n. Refusals 7 to 11, then 13.
+pub fn check(bytes: &[u8]) -> Reply
+    ensures { λ r. ⌜ replyOf r ≡ check (now (bytes .entry)) ⌝ }
+{
+    checking::check(bytes)
+}
+
+// Reads a column's ids and values into the first n places of each buffer, and hands back n. Refusals 7 to 11, 12, 13; all is
+// verified before a place is written, and a refusal changes nothing.
+pub fn read(bytes: &[u8], ids: &mut [u32], values: &mut [i64]) -> Reply
+    ensures replies { λ r. ⌜ replyOf r ≡ readReply (reading (now (bytes .entry)) (length (now (ids .entry))) (length (now (values .entry)))) ⌝ }
+    ensures ids_filled { λ _. ⌜ now (ids .exit) ≡ idsAfter (reading (now (bytes .entry)) (length (now (ids .entry))) (length (now (values .entry)))) (now (ids .entry)) ⌝ }
+    ensures values_filled { λ _. ⌜ now (values .exit) ≡ valuesAfter (reading (now (bytes .entry)) (length (now (ids .entry))) (length (now (values .entry)))) (now (values .entry)) ⌝ }
+{
+    reader::read(bytes, ids, values)
+}
+
+// Looks one id up by jump entries and ranks: refusals 14, 7 to 11, 15. It reads the header, one jump entry, one block head, at most
+// one stride of words (or one block's, without ranks) and one value.
+pub fn look_up(bytes: &[u8], id: u32) -> Answer
+    ensures answers { λ r. ⌜ answerOf r ≡ lookUp (now (bytes .entry)) id ⌝ }
+    ensures words { λ r. ⌜ FewWords (now (bytes .entry)) (answerOf r) ⌝ }
+{
+    lookup::look_up(bytes, id)
+}
+
+// The same from a column that `Column::open` gave for these bytes, without reading the header again. Any other numbers in its place
+// are safe: 14, then 10 where they break a header rule, 11 where they do not fit these bytes, then 15.
+pub fn look_up_in(column: Column, bytes: &[u8], id: u32) -> Answer
+    ensures answers { λ r. ⌜ answerOf r ≡ lookUpIn (now (bytes .entry)) (columnOf column) id ⌝ }
+    ensures words { λ r. ⌜ wordsOf (answerOf r) ≤ strideWords (column .power) ⌝ }
+{
+    lookup::look_up_in(column, bytes, id)
+}
