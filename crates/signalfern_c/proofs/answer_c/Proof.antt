@@ -1,0 +1,48 @@
+-- `signalfern_c::answer_c` meets its contract. Assumes nothing.
+use borrow.Author.Needs.{needs}
+use mathlib.Core.Path.{sym, ap}
+use mir.Syntax.{w64}
+use mir.Facts.{toZ-ofZ}
+use Rattle.signalfern_c.proofs.Shown.{refused-answer}
+use Rattle.signalfern_c.specs.Boundary.{answerC}
+use Rattle.format.specs.declared.Answer.{Answer}
+use Rattle.format.specs.Replies.{answerOf}
+use Rattle.signalfern_c.proofs.answer_c.Statement.{statement}
+use Rattle.signalfern_c.proofs.answer_c.Tie as tie
+
+enum-known-answer : tie.Need-enum-known-answer
+enum-known-answer c = search needs
+
+enum-known-answer-2 : tie.Need-enum-known-answer-2
+enum-known-answer-2 c = search needs
+
+enum-known-answer-3 : tie.Need-enum-known-answer-3
+enum-known-answer-3 c = search needs
+
+number-requires : tie.Need-number-requires
+number-requires c κs = search needs
+
+number-with-requires : tie.Need-number-with-requires
+number-with-requires c κs = search needs
+
+returns : tie.Need-returns
+returns c = rw (toZ-ofZ {w = w64} {z = c .before .answer .given .0 .1 .0} (search needs)) (ap (λ (x : Answer). answerC (answerOf x)) (sym (c .before .answer .given .1)))
+
+returns-2 : tie.Need-returns-2
+returns-2 c = ap (λ (x : Answer). answerC (answerOf x)) (sym (c .before .answer2 .given .1))
+
+returns-3 : tie.Need-returns-3
+returns-3 c = refused-answer _ _ _ (c .before .number .ensures) (c .number-with .ensures) _ (c .before .before .before .answer3 .given .1)
+
+pub answer-c-spec : {M : Type 1} → statement M
+answer-c-spec =
+    tie.close
+    (tie.spec
+    enum-known-answer
+    enum-known-answer-2
+    enum-known-answer-3
+    number-requires
+    number-with-requires
+    returns
+    returns-2
+    returns-3)

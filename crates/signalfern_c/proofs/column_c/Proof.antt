@@ -1,0 +1,38 @@
+-- `signalfern_c::column_c` meets its contract. Assumes nothing.
+use borrow.Author.Needs.{needs}
+use mathlib.Core.Path.{sym, ap}
+use Rattle.signalfern_c.proofs.Shown.{refused-column}
+use Rattle.signalfern_c.specs.Boundary.{columnC}
+use Rattle.column.specs.declared.Opened.{Opened}
+use Rattle.column.specs.Opened.{openedOf}
+use Rattle.signalfern_c.proofs.column_c.Statement.{statement}
+use Rattle.signalfern_c.proofs.column_c.Tie as tie
+
+enum-known-opened : tie.Need-enum-known-opened
+enum-known-opened c = search needs
+
+enum-known-opened-2 : tie.Need-enum-known-opened-2
+enum-known-opened-2 c = search needs
+
+number-requires : tie.Need-number-requires
+number-requires c κs = search needs
+
+number-with-requires : tie.Need-number-with-requires
+number-with-requires c κs = search needs
+
+returns : tie.Need-returns
+returns c = ap (λ (x : Opened). columnC (openedOf x)) (sym (c .before .opened .given .1))
+
+returns-2 : tie.Need-returns-2
+returns-2 c = refused-column _ _ _ (c .before .number .ensures) (c .number-with .ensures) _ (c .before .before .before .opened2 .given .1)
+
+pub column-c-spec : {M : Type 1} → statement M
+column-c-spec =
+    tie.close
+    (tie.spec
+    enum-known-opened
+    enum-known-opened-2
+    number-requires
+    number-with-requires
+    returns
+    returns-2)

@@ -1,0 +1,38 @@
+-- `signalfern_c::reply_c` meets its contract. Assumes nothing.
+use borrow.Author.Needs.{needs}
+use mathlib.Core.Path.{sym, ap}
+use Rattle.signalfern_c.proofs.Shown.{refused-reply}
+use Rattle.signalfern_c.specs.Boundary.{replyC}
+use Rattle.format.specs.declared.Reply.{Reply}
+use Rattle.format.specs.Replies.{replyOf}
+use Rattle.signalfern_c.proofs.reply_c.Statement.{statement}
+use Rattle.signalfern_c.proofs.reply_c.Tie as tie
+
+enum-known-reply : tie.Need-enum-known-reply
+enum-known-reply c = search needs
+
+enum-known-reply-2 : tie.Need-enum-known-reply-2
+enum-known-reply-2 c = search needs
+
+number-requires : tie.Need-number-requires
+number-requires c κs = search needs
+
+number-with-requires : tie.Need-number-with-requires
+number-with-requires c κs = search needs
+
+returns : tie.Need-returns
+returns c = ap (λ (x : Reply). replyC (replyOf x)) (sym (c .before .reply .given .1))
+
+returns-2 : tie.Need-returns-2
+returns-2 c = refused-reply _ _ _ (c .before .number .ensures) (c .number-with .ensures) _ (c .before .before .before .reply2 .given .1)
+
+pub reply-c-spec : {M : Type 1} → statement M
+reply-c-spec =
+    tie.close
+    (tie.spec
+    enum-known-reply
+    enum-known-reply-2
+    number-requires
+    number-with-requires
+    returns
+    returns-2)

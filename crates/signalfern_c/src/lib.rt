@@ -1,0 +1,195 @@
+// The library's calls for C: thin over crate signalfern, with structs returned by value, so that a refusal needs no lent slot.
+// include/signalfern.h declares them; a slice passes as a pointer and a length.
+ghost use mathlib.Core.Path.{_≡_};
+ghost use lib.ListN.{length};
+ghost use Rattle.format.specs.Writer.{write, writeReply, writeOut};
+ghost use Rattle.format.specs.Check.{check, reading, readReply, idsAfter, valuesAfter};
+ghost use Rattle.format.specs.Opening.{openColumn};
+ghost use Rattle.format.specs.LookUp.{lookUp, lookUpIn};
+ghost use Rattle.format.specs.Replies.{replyOf, answerOf};
+ghost use Rattle.column.specs.Opened.{openedOf};
+ghost use Rattle.signalfern_c.specs.Boundary.{replyC, answerC, columnC, openedC};
+use column::Column;
+use column::Opened;
+use format::Answer;
+use format::Reply;
+
+// signalfern_reply
+#[repr(C)]
+pub struct CReply {
+    pub refusal: u64,
+    pub number: u64,
+}
+
+// signalfern_answer
+#[repr(C)]
+pub struct CAnswer {
+    pub kind: u64,
+    pub number: u64,
+    pub ordinal: u64,
+    pub value: i64,
+    pub words: u64,
+}
+
+// signalfern_column
+#[repr(C)]
+pub struct CColumn {
+    pub refusal: u64,
+    pub number: u64,
+    pub count: u64,
+    pub power: u64,
+    pub id_bytes: u64,
+    pub jump_count: u64,
+    pub bits: u64,
+    pub least: u64,
+    pub step: u64,
+    pub value_bytes: u64,
+    pub start: u64,
+}
+
+fn reply_c(reply: Reply) -> CReply
+    ensures { λ r. ⌜ r ≡ replyC (replyOf reply) ⌝ }
+{
+    match reply {
+        Reply::Done(n) => CReply {
+            refusal: 0,
+            number: n,
+        },
+        Reply::Refused(why) => CReply {
+            refusal: why.number(),
+            number: why.number_with(),
+        },
+    }
+}
+
+fn answer_c(answer: Answer) -> CAnswer
+    ensures { λ r. ⌜ r ≡ answerC (answerOf answer) ⌝ }
+{
+    match answer {
+        Answer::Found {
+            ordinal,
+            value,
+            words,
+        } => CAnswer {
+            kind: 0,
+            number: 0,
+            ordinal,
+            value,
+            words,
+        },
+        Answer::Absent { words } => CAnswer {
+            kind: 1,
+            number: 0,
+            ordinal: 0,
+            value: 0,
+            words,
+        },
+        Answer::Refused(why) => CAnswer {
+            kind: why.number(),
+            number: why.number_with(),
+            ordinal: 0,
+            value: 0,
+            words: 0,
+        },
+    }
+}
+
+fn column_c(opened: Opened) -> CColumn
+    ensures { λ r. ⌜ r ≡ columnC (openedOf opened) ⌝ }
+{
+    match opened {
+        Opened::Open(c) => CColumn {
+            refusal: 0,
+            number: 0,
+            count: c.count,
+            power: c.power,
+            id_bytes: c.id_bytes,
+            jump_count: c.jump_count,
+            bits: c.bits,
+            least: c.least,
+            step: c.step,
+            value_bytes: c.value_bytes,
+            start: c.start,
+        },
+        Opened::Refused(why) => CColumn {
+            refusal: why.number(),
+            number: why.number_with(),
+            count: 0,
+            power: 0,
+            id_bytes: 0,
+            jump_count: 0,
+            bits: 0,
+            least: 0,
+            step: 0,
+            value_bytes: 0,
+            start: 0,
+        },
+    }
+}
+
+#[no_mangle]
+pub extern "C" fn signalfern_write(
+    ids: &[u32],
+    values: &[i64],
+    power: u32,
+    out: &mut [u8],
+) -> CReply
+    ensures replies { λ r. ⌜ r ≡ replyC (writeReply (write power (now (ids .entry)) (now (values .entry)) (length (now (out .entry))))) ⌝ }
+    ensures written { λ _. ⌜ now (out .exit) ≡ writeOut (write power (now (ids .entry)) (now (values .entry)) (length (now (out .entry)))) (now (out .entry)) ⌝ }
+{
+    let reply = signalfern::write(ids, values, power, out);
+    reply_c(reply)
+}
+
+#[no_mangle]
+pub extern "C" fn signalfern_check(bytes: &[u8]) -> CReply
+    ensures { λ r. ⌜ r ≡ replyC (check (now (bytes .entry))) ⌝ }
+{
+    let reply = signalfern::check(bytes);
+    reply_c(reply)
+}
+
+#[no_mangle]
+pub extern "C" fn signalfern_read(bytes: &[u8], ids: &mut [u32], values: &mut [i64]) -> CReply
+    ensures replies { λ r. ⌜ r ≡ replyC (readReply (reading (now (bytes .entry)) (length (now (ids .entry))) (length (now (values .entry))))) ⌝ }
+    ensures filled { λ _. ⌜ now (ids .exit) ≡ idsAfter (reading (now (bytes .entry)) (length (now (ids .entry))) (length (now (values .entry)))) (now (ids .entry)) ⌝ }
+    ensures valued { λ _. ⌜ now (values .exit) ≡ valuesAfter (reading (now (bytes .entry)) (length (now (ids .entry))) (length (now (values .entry)))) (now (values .entry)) ⌝ }
+{
+    let reply = signalfern::read(bytes, ids, values);
+    reply_c(reply)
+}
+
+#[no_mangle]
+pub extern "C" fn signalfern_look_up(bytes: &[u8], id: u32) -> CAnswer
+    ensures { λ r. ⌜ r ≡ answerC (lookUp (now (bytes .entry)) id) ⌝ }
+{
+    let answer = signalfern::look_up(bytes, id);
+    answer_c(answer)
+}
+
+#[no_mangle]
+pub extern "C" fn signalfern_open(bytes: &[u8]) -> CColumn
+    ensures { λ r. ⌜ r ≡ columnC (openColumn (now (bytes .entry))) ⌝ }
+{
+    let opened = Column::open(bytes);
+    column_c(opened)
+}
+
+#[no_mangle]
+pub extern "C" fn signalfern_look_up_in(column: CColumn, bytes: &[u8], id: u32) -> CAnswer
+    ensures { λ r. ⌜ r ≡ answerC (lookUpIn (now (bytes .entry)) (openedC column) id) ⌝ }
+{
+    let c = Column {
+        count: column.count,
+        power: column.power,
+        id_bytes: column.id_bytes,
+        jump_count: column.jump_count,
+        bits: column.bits,
+        least: column.least,
+        step: column.step,
+        value_bytes: column.value_bytes,
+        start: column.start,
+    };
+    let answer = signalfern::look_up_in(c, bytes, id);
+    answer_c(answer)
+}

@@ -1,0 +1,159 @@
+/*
+ * Signalfern: score columns.
+ *
+ * A column is a byte string that holds n pairs: an id (0 to 2147352575, strictly ascending) and a
+ * signed 64-bit value. It can be written, checked, read whole, and asked for one id. Link
+ * libsignalfern_c.a (x86-64 Linux).
+ *
+ * For every call:
+ *
+ * - Every input is allowed, and every outcome is stated here. A call refuses with a number from
+ *   the table below; it never stops the program.
+ * - A refusal changes no lent byte. A success changes exactly what the call names.
+ * - A length counts elements (ids, values or bytes), not bytes of memory. The pointer before it
+ *   leads to that many elements, which the caller owns until the call returns. A pointer may be
+ *   NULL only where its length is 0; it is then not followed.
+ * - A pointer is aligned as its type asks: 4 bytes for uint32_t, 8 for int64_t, none for uint8_t.
+ *   This holds where the length is 0 too (NULL is aligned).
+ * - What a call writes to (out; ids and values of a reading) overlaps nothing else that is lent to
+ *   the same call, and no other thread uses it during the call. What a call only reads may be read
+ *   by others at the same time. No lent array takes up more than 2^63 - 1 bytes.
+ * - Nothing is allocated, nothing is kept between calls, and no call waits.
+ *
+ * Whoever keeps to the pointer rules above gets what is promised here. C cannot test them.
+ */
+#ifndef SIGNALFERN_H
+#define SIGNALFERN_H
+
+#include <stddef.h>
+#include <stdint.h>
+
+#ifdef __cplusplus
+extern "C" {
+#endif
+
+/* Limits. */
+#define SIGNALFERN_MAX_ID 2147352575u    /* greatest id */
+#define SIGNALFERN_MAX_COUNT 2147352576u /* greatest count of pairs */
+
+/*
+ * Refusals. The number with a refusal is 0 where nothing else is said.
+ */
+enum {
+    SIGNALFERN_LENGTHS = 1,  /* ids and values differ in count */
+    SIGNALFERN_POWER = 2,    /* the rank power is not 0 and not 7 to 15 */
+    SIGNALFERN_ORDER = 3,    /* an id is not above the one before; with the first such index */
+    SIGNALFERN_RANGE = 4,    /* an id is above SIGNALFERN_MAX_ID; with the first such index */
+    SIGNALFERN_OFFSET = 5,   /* a block would start at 2147483647 or later */
+    SIGNALFERN_ROOM = 6,     /* the output is shorter than the column; with the bytes needed */
+    SIGNALFERN_SHORT = 7,    /* the bytes end within a header number */
+    SIGNALFERN_NUMBER = 8,   /* a header number is not minimal, or is 2^64 or more */
+    SIGNALFERN_EDITION = 9,  /* the first header number is not 1 */
+    SIGNALFERN_HEADER = 10,  /* a header rule is broken */
+    SIGNALFERN_LENGTH = 11,  /* header, id section and value section are not the byte count */
+    SIGNALFERN_BUFFER = 12,  /* the ids or the values buffer is shorter than n; with n */
+    SIGNALFERN_DAMAGED = 13, /* the bytes are no column of any pair list */
+    SIGNALFERN_ID = 14,      /* the looked-up id is above SIGNALFERN_MAX_ID */
+    SIGNALFERN_BROKEN = 15   /* a step of the look-up fails: the bytes are damaged */
+};
+
+/* What signalfern_write, signalfern_check and signalfern_read answer. */
+typedef struct {
+    uint64_t refusal; /* 0: done. Otherwise the refusal. */
+    uint64_t number;  /* Done: see the call. Otherwise the number with the refusal. */
+} signalfern_reply;
+
+/* The kinds of a look-up's answer that are no refusal. Refusal 1 is never given by a look-up. */
+enum { SIGNALFERN_FOUND = 0, SIGNALFERN_ABSENT = 1 };
+
+/* What a look-up answers. Fields that a case does not name hold 0. */
+typedef struct {
+    uint64_t kind;    /* SIGNALFERN_FOUND, SIGNALFERN_ABSENT, or the refusal: 7 to 11, 14, 15. */
+    uint64_t number;  /* Refused: the number with the refusal. */
+    uint64_t ordinal; /* Found: the id's index in the list, from 0. */
+    int64_t value;    /* Found: the id's value. */
+    uint64_t words;   /* Found or absent: how many 64-bit words of a bitmap were looked at, 0 to 1024. */
+} signalfern_answer;
+
+/*
+ * A column opened once, for many look-ups. It holds numbers alone and no pointer: it may be copied,
+ * and the bytes are lent again with each look-up. Where `refusal` is not 0, all fields after
+ * `number` hold 0.
+ */
+typedef struct {
+    uint64_t refusal;     /* 0: opened. Otherwise the refusal: 7 to 11. */
+    uint64_t number;      /* Opened: 0. Otherwise the number with the refusal. */
+    uint64_t count;       /* n, the count of pairs */
+    uint64_t power;       /* p, the rank power: 0 or 7 to 15 */
+    uint64_t id_bytes;    /* L, the bytes of the id section */
+    uint64_t jump_count;  /* J, the count of jump entries */
+    uint64_t bits;        /* w, the bits of a stored number: 0 to 64 */
+    uint64_t least;       /* the smallest value v as the header has it: 2v, or -2v-1 if v < 0 */
+    uint64_t step;        /* g, the divisor: at least 1 */
+    uint64_t value_bytes; /* V, the bytes of the value section */
+    uint64_t start;       /* the bytes of the header: where the id section starts */
+} signalfern_column;
+
+/*
+ * Writes the column of the pairs (ids[i], values[i]) to the front of out.
+ *
+ * power is the rank power: 0 for none, or 7 to 15 for one rank to every 2^power ids of a dense
+ * block (9 is a good choice).
+ *
+ * Done: number is the column's byte count; exactly these bytes of out were written, and those after
+ * them stay as they were. Refused: 1 to 6, the lowest that applies, and out stays as it was. To
+ * learn how many bytes are needed, call with out_len 0: the refusal is SIGNALFERN_ROOM.
+ */
+signalfern_reply signalfern_write(const uint32_t *ids, size_t ids_len,
+                                  const int64_t *values, size_t values_len,
+                                  uint32_t power, uint8_t *out, size_t out_len);
+
+/*
+ * Tells whether the bytes are a column, to the last bit.
+ *
+ * Done: number is n, and there is just one pair list with this column. Refused: 7 to 11, then 13.
+ * The time grows with the bytes, not with n: a column of 393 KB may hold 2147352576 pairs.
+ */
+signalfern_reply signalfern_check(const uint8_t *bytes, size_t len);
+
+/*
+ * Reads all pairs into ids and values. The bytes are checked in full first.
+ *
+ * Done: number is n; exactly the first n places of ids and of values were written, with the pairs
+ * in order. Refused: 7 to 11, then 12, then 13; both buffers stay as they were. SIGNALFERN_BUFFER
+ * brings n, but for bytes that no check has accepted n is only what the header claims.
+ */
+signalfern_reply signalfern_read(const uint8_t *bytes, size_t len,
+                                 uint32_t *ids, size_t ids_len,
+                                 int64_t *values, size_t values_len);
+
+/*
+ * Looks one id up, directly: the header, one jump entry, one block and one value are read.
+ *
+ * Found, absent or refused: 14, then 7 to 11, then 15. On bytes that signalfern_check accepts the
+ * answer is that of the pair list. Other bytes are not checked in full: the answer is then the one
+ * that the look-up's steps fix, and no byte outside the lent ones is read.
+ */
+signalfern_answer signalfern_look_up(const uint8_t *bytes, size_t len, uint32_t id);
+
+/*
+ * Reads the header, for signalfern_look_up_in. Refused: 7 to 11.
+ */
+signalfern_column signalfern_open(const uint8_t *bytes, size_t len);
+
+/*
+ * Looks one id up in a column opened before. With the column of signalfern_open(bytes, len), not
+ * refused, and the same bytes, the answer is that of signalfern_look_up(bytes, len, id).
+ *
+ * Any other column is allowed too: its numbers from count to start are taken for the header's.
+ * Refused: 14; 10 where these numbers break a header rule (as those of a refused opening do); 11
+ * where start + id_bytes + value_bytes is not len; 15. Its fields refusal and number do not matter.
+ */
+signalfern_answer signalfern_look_up_in(signalfern_column column,
+                                        const uint8_t *bytes, size_t len, uint32_t id);
+
+#ifdef __cplusplus
+}
+#endif
+
+#endif

@@ -1,0 +1,132 @@
+//! Columns to measure on, and ids to ask them for.
+
+/// Look-ups in one run.
+pub const LOOK_UPS: usize = 1_000;
+
+/// What the blocks of a column are.
+#[derive(Clone, Copy)]
+pub enum Shape {
+    /// 1000 ids a block.
+    Sparse,
+    /// Half of each block.
+    Dense,
+    /// Every second block, whole.
+    Full,
+    /// All of these in turns, with blocks between that are missing.
+    Mixed,
+}
+
+impl Shape {
+    pub const EACH: [Self; 4] = [Self::Sparse, Self::Dense, Self::Full, Self::Mixed];
+
+    pub fn name(self) -> &'static str {
+        match self {
+            Self::Sparse => "sparse",
+            Self::Dense => "dense",
+            Self::Full => "full",
+            Self::Mixed => "mixed",
+        }
+    }
+
+    /// Of 65536 places in this block, how many are listed.
+    fn listed(self, block: u32) -> u32 {
+        match (self, block % 8) {
+            (Self::Sparse, _) => 1000,
+            (Self::Dense, _) => 32_768,
+            (Self::Full, odd) => 65_536 * (1 - odd % 2),
+            (Self::Mixed, 0 | 4) => 1000,
+            (Self::Mixed, 1 | 5) => 32_768,
+            (Self::Mixed, 2 | 6) => 65_536,
+            (Self::Mixed, _) => 0,
+        }
+    }
+}
+
+/// The order in which ids are asked for.
+#[derive(Clone, Copy, PartialEq)]
+pub enum Order {
+    Random,
+    Ascending,
+}
+
+impl Order {
+    pub fn name(self) -> &'static str {
+        match self {
+            Self::Random => "random",
+            Self::Ascending => "ascending",
+        }
+    }
+}
+
+/// A list of pairs and its column.
+pub struct Input {
+    pub shape: Shape,
+    pub ids: Vec<u32>,
+    pub values: Vec<i64>,
+    pub bytes: Vec<u8>,
+}
+
+impl Input {
+    /// Whole blocks, until there are at least so many pairs.
+    pub fn new(shape: Shape, pairs: usize) -> Self {
+        let mut random = Random(7);
+        let mut ids = Vec::new();
+        for block in 0.. {
+            if ids.len() >= pairs {
+                break;
+            }
+            let listed = u64::from(shape.listed(block));
+            let places = (0..65_536).filter(|_| (random.next() & 0xFFFF) < listed);
+            ids.extend(places.map(|place| (block << 16) | place));
+        }
+        let values: Vec<i64> = ids
+            .iter()
+            .map(|_| (random.next() & 0xFFF) as i64 - 900)
+            .collect();
+        let bytes = signalfern::write_to_vec(&ids, &values, 9).expect("a list of pairs");
+        Self {
+            shape,
+            ids,
+            values,
+            bytes,
+        }
+    }
+
+    /// Listed ids.
+    pub fn hits(&self, count: usize, order: Order) -> Vec<u32> {
+        let mut random = Random(8);
+        let pick = || self.ids[(random.next() >> 8) as usize % self.ids.len()];
+        Self::ordered(std::iter::repeat_with(pick).take(count).collect(), order)
+    }
+
+    /// Ids between the listed ones.
+    pub fn misses(&self, count: usize, order: Order) -> Vec<u32> {
+        let mut random = Random(9);
+        // Up to the last block's end, and for a full column one block more.
+        let most = (self.ids.last().map_or(0, |last| last >> 16) as usize + 1) << 16;
+        let most = most + usize::from(matches!(self.shape, Shape::Full)) * 65_536;
+        let picks = std::iter::repeat_with(|| ((random.next() >> 8) as usize % most) as u32);
+        let absent = picks.filter(|id| self.ids.binary_search(id).is_err());
+        Self::ordered(absent.take(count).collect(), order)
+    }
+
+    /// Ascending within each run, so that every run goes over the whole column.
+    fn ordered(mut ids: Vec<u32>, order: Order) -> Vec<u32> {
+        if order == Order::Ascending {
+            ids.chunks_mut(LOOK_UPS).for_each(<[u32]>::sort_unstable);
+        }
+        ids
+    }
+}
+
+/// A small generator (xorshift with a multiplied output).
+struct Random(u64);
+
+impl Random {
+    fn next(&mut self) -> u64 {
+        self.0 ^= self.0 >> 12;
+        self.0 ^= self.0 << 25;
+        self.0 ^= self.0 >> 27;
+        self.0.wrapping_mul(0x2545_F491_4F6C_DD1D) >> 8
+    }
+}

@@ -1,0 +1,163 @@
+//! Document 01 once more, in plain safe Rust.
+//!
+//! Written from the document alone, so that the tests can hold the proved library against a second
+//! opinion and the benchmarks have something to measure it by. Nothing here is proved, and the
+//! library does not use it. Like the library it allocates nothing.
+#![cfg_attr(not(test), no_std)]
+
+mod header;
+mod ids;
+mod look_up;
+mod values;
+
+pub use header::{open, Column};
+pub use look_up::{look_up, look_up_in};
+
+/// The greatest id.
+pub const MAX_ID: u32 = 2_147_352_575;
+/// The greatest count of pairs.
+pub const MAX_COUNT: u64 = 2_147_352_576;
+/// The greatest count of jump entries.
+pub const MAX_JUMPS: u64 = 32_767;
+/// The greatest width of a stored number.
+pub const MAX_WIDTH: u64 = 64;
+
+/// A refusal: its number in document 01, and the number with it.
+#[derive(Clone, Copy, Debug, PartialEq, Eq)]
+pub struct Refusal {
+    /// 1 to 15.
+    pub number: u64,
+    /// An index, a byte count, a pair count or 0.
+    pub with: u64,
+}
+
+impl Refusal {
+    const fn new(number: u64, with: u64) -> Self {
+        Self { number, with }
+    }
+
+    const LENGTHS: Self = Self::new(1, 0);
+    const POWER: Self = Self::new(2, 0);
+    const OFFSET: Self = Self::new(5, 0);
+    const SHORT: Self = Self::new(7, 0);
+    const NUMBER: Self = Self::new(8, 0);
+    const EDITION: Self = Self::new(9, 0);
+    const HEADER: Self = Self::new(10, 0);
+    const LENGTH: Self = Self::new(11, 0);
+    const DAMAGED: Self = Self::new(13, 0);
+    const ID: Self = Self::new(14, 0);
+    const BROKEN: Self = Self::new(15, 0);
+
+    const fn order(index: usize) -> Self {
+        Self::new(3, index as u64)
+    }
+
+    const fn range(index: usize) -> Self {
+        Self::new(4, index as u64)
+    }
+
+    const fn room(needed: u64) -> Self {
+        Self::new(6, needed)
+    }
+
+    const fn buffer(count: u64) -> Self {
+        Self::new(12, count)
+    }
+}
+
+/// What a look-up answers.
+#[derive(Clone, Copy, Debug, PartialEq, Eq)]
+pub enum Answer {
+    /// The id is listed.
+    Found {
+        /// How many listed ids lie below it.
+        ordinal: u64,
+        /// Its value.
+        value: i64,
+        /// Bitmap words counted.
+        words: u64,
+    },
+    /// The id is not listed.
+    Absent {
+        /// Bitmap words counted.
+        words: u64,
+    },
+}
+
+fn power_allowed(power: u64) -> bool {
+    power == 0 || (7..=15).contains(&power)
+}
+
+/// Writes the column of the pairs to the front of `out`, and gives its byte count.
+pub fn write(ids: &[u32], values: &[i64], power: u32, out: &mut [u8]) -> Result<u64, Refusal> {
+    if ids.len() != values.len() {
+        return Err(Refusal::LENGTHS);
+    }
+    if !power_allowed(u64::from(power)) {
+        return Err(Refusal::POWER);
+    }
+    if let Some(i) = ids.windows(2).position(|pair| pair[1] <= pair[0]) {
+        return Err(Refusal::order(i + 1));
+    }
+    // The ids ascend, so the first above the limit can be searched for.
+    let within = ids.partition_point(|&id| id <= MAX_ID);
+    if within < ids.len() {
+        return Err(Refusal::range(within));
+    }
+    let layout = ids::Layout::of(ids, power)?;
+    let plan = values::Plan::of(values);
+    let column = Column {
+        count: ids.len() as u64,
+        power: u64::from(power),
+        id_bytes: layout.bytes(),
+        jump_count: layout.jump_count(),
+        bits: u64::from(plan.width),
+        least: header::zigzag(plan.smallest),
+        step: plan.divisor,
+        value_bytes: values::section_bytes(ids.len() as u64, u64::from(plan.width)),
+        start: 0,
+    };
+    let (head, head_len) = column.encode();
+    let needed = head_len as u64 + column.id_bytes + column.value_bytes;
+    if (out.len() as u64) < needed {
+        return Err(Refusal::room(needed));
+    }
+    let (head_out, rest) = out[..needed as usize].split_at_mut(head_len);
+    let (id_out, value_out) = rest.split_at_mut(column.id_bytes as usize);
+    head_out.copy_from_slice(&head[..head_len]);
+    layout.write(ids, id_out);
+    plan.write(values, value_out);
+    Ok(needed)
+}
+
+/// Whether the bytes are the column of some pair list; gives its count of pairs.
+pub fn check(bytes: &[u8]) -> Result<u64, Refusal> {
+    let column = open(bytes)?;
+    verify(&column, bytes)?;
+    Ok(column.count)
+}
+
+/// Reads all pairs into the first places of the two buffers, and gives their count.
+pub fn read(bytes: &[u8], ids: &mut [u32], values: &mut [i64]) -> Result<u64, Refusal> {
+    let column = open(bytes)?;
+    let shorter = ids.len().min(values.len()) as u64;
+    if shorter < column.count {
+        return Err(Refusal::buffer(column.count));
+    }
+    verify(&column, bytes)?;
+    let count = column.count as usize;
+    let (id_section, value_section) = column.sections(bytes);
+    ids::read(&column, id_section, &mut ids[..count]);
+    values::read(&column, value_section, &mut values[..count]);
+    Ok(column.count)
+}
+
+/// DAMAGED unless the two sections of an opened column are those of a pair list.
+fn verify(column: &Column, bytes: &[u8]) -> Result<(), Refusal> {
+    let (id_section, value_section) = column.sections(bytes);
+    let sound = ids::sound(column, id_section) && values::sound(column, value_section);
+    sound.then_some(()).ok_or(Refusal::DAMAGED)
+}
+
+#[cfg(test)]
+mod tests;

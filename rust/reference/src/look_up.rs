@@ -1,0 +1,121 @@
+//! "The look-up, step by step".
+
+use crate::ids::{data_bytes, rank_bytes, short, Kind};
+use crate::values::{fetch, value_of};
+use crate::{open, Answer, Column, Refusal, MAX_ID};
+
+/// Looks one id up.
+pub fn look_up(bytes: &[u8], id: u32) -> Result<Answer, Refusal> {
+    if id > MAX_ID {
+        return Err(Refusal::ID);
+    }
+    steps(&open(bytes)?, bytes, id)
+}
+
+/// Looks one id up in a column opened before. Any numbers may stand in the column: they are held
+/// to the header rules and to the byte count first.
+pub fn look_up_in(column: &Column, bytes: &[u8], id: u32) -> Result<Answer, Refusal> {
+    if id > MAX_ID {
+        return Err(Refusal::ID);
+    }
+    if !column.keeps_the_rules() {
+        return Err(Refusal::HEADER);
+    }
+    if !column.spans(bytes) {
+        return Err(Refusal::LENGTH);
+    }
+    steps(column, bytes, id)
+}
+
+fn int(bytes: &[u8]) -> u64 {
+    u64::from(u32::from_le_bytes([bytes[0], bytes[1], bytes[2], bytes[3]]))
+}
+
+/// A place within its block, or none; with the words counted.
+type Inner = (Option<usize>, u64);
+
+fn steps(column: &Column, bytes: &[u8], id: u32) -> Result<Answer, Refusal> {
+    let (section, values) = column.sections(bytes);
+    let (b, r) = ((id >> 16) as u16, id as u16);
+    let power = column.power as u32;
+    let jump_count = column.jump_count as usize;
+    let (blocks, jumps) = section.split_at(section.len() - 8 * jump_count);
+
+    // 1: the ordinal and the start.
+    let (ordinal, start) = match jump_count.checked_sub(1) {
+        None => (0, 0),
+        Some(last) => {
+            let entry = &jumps[8 * last.min(usize::from(b))..];
+            (int(entry), int(&entry[4..]) as usize)
+        }
+    };
+    // 2: block number and count.
+    let head = blocks.get(start..start + 4).ok_or(Refusal::BROKEN)?;
+    let (k, c) = (short(head), usize::from(short(&head[2..])) + 1);
+    // 3: another block.
+    if jump_count > 0 && k < b {
+        return Err(Refusal::BROKEN);
+    }
+    if k != b {
+        return Ok(Answer::Absent { words: 0 });
+    }
+    // 4: the block's data and its ordinals.
+    let data = blocks[start + 4..]
+        .get(..data_bytes(c, power))
+        .ok_or(Refusal::BROKEN)?;
+    if ordinal + c as u64 > column.count {
+        return Err(Refusal::BROKEN);
+    }
+    // 5 and 6: the place.
+    let (inner, words) = match Kind::of(c) {
+        Kind::Sparse => (sparse_place(data, r), 0),
+        Kind::Dense => dense_place(data, power, r),
+        Kind::All => (Some(usize::from(r)), 0),
+    };
+    let Some(inner) = inner else {
+        return Ok(Answer::Absent { words });
+    };
+    if inner >= c {
+        return Err(Refusal::BROKEN);
+    }
+    // 7: the value.
+    let ordinal = ordinal + inner as u64;
+    let stored = fetch(values, column.bits as u32, ordinal as usize);
+    let value = value_of(column, stored).ok_or(Refusal::BROKEN)?;
+    Ok(Answer::Found {
+        ordinal,
+        value,
+        words,
+    })
+}
+
+/// The index of `r`, if it is the first entry at or above `r`.
+fn sparse_place(data: &[u8], r: u16) -> Option<usize> {
+    let mut entries = data.chunks_exact(2).map(short);
+    let index = entries.clone().position(|entry| entry >= r)?;
+    (entries.nth(index) == Some(r)).then_some(index)
+}
+
+fn dense_place(data: &[u8], power: u32, r: u16) -> Inner {
+    let (ranks, bitmap) = data.split_at(rank_bytes(power));
+    let word_at = |i: usize| {
+        let bytes = &bitmap[8 * i..8 * i + 8];
+        u64::from_le_bytes(bytes.try_into().expect("eight bytes"))
+    };
+    let (own, bit) = (usize::from(r / 64), r % 64);
+    let word = word_at(own);
+    if word >> bit & 1 == 0 {
+        return (None, 1);
+    }
+    let (rank, first) = if power == 0 {
+        (0, 0)
+    } else {
+        let stride = usize::from(r) >> power;
+        let rank = u16::from_be_bytes([ranks[2 * stride], ranks[2 * stride + 1]]);
+        (usize::from(rank), stride << (power - 6))
+    };
+    let before: u32 = (first..own).map(|i| word_at(i).count_ones()).sum();
+    let below = (word & ((1 << bit) - 1)).count_ones();
+    let words = (own - first + 1) as u64;
+    (Some(rank + (before + below) as usize), words)
+}

@@ -1,0 +1,228 @@
+//! The reference against a writer so plain that it can be read beside the document, and against
+//! the pair list itself.
+
+use std::collections::BTreeMap;
+
+use super::*;
+
+fn put_number(out: &mut Vec<u8>, mut number: u128) {
+    while number >= 128 {
+        out.push((number % 128 + 128) as u8);
+        number /= 128;
+    }
+    out.push(number as u8);
+}
+
+fn put_low_first(out: &mut Vec<u8>, number: usize, bytes: usize) {
+    out.extend((0..bytes).map(|i| (number >> (8 * i)) as u8));
+}
+
+/// The document's rules one by one, with no thought of speed.
+fn plain_column(pairs: &BTreeMap<u32, i64>, power: u32) -> Vec<u8> {
+    let mut blocks: BTreeMap<usize, Vec<usize>> = BTreeMap::new();
+    for &id in pairs.keys() {
+        let block = blocks.entry(id as usize / 65536).or_default();
+        block.push(id as usize % 65536);
+    }
+    let mut section = Vec::new();
+    let mut entries = Vec::new();
+    let mut before = 0;
+    for (&number, places) in &blocks {
+        entries.resize(number + 1, (before, section.len()));
+        put_low_first(&mut section, number, 2);
+        put_low_first(&mut section, places.len() - 1, 2);
+        match places.len() {
+            1..=4095 => places
+                .iter()
+                .for_each(|&x| put_low_first(&mut section, x, 2)),
+            65536 => {}
+            _ => {
+                for stride in (0..65536).step_by(1 << power).filter(|_| power > 0) {
+                    let rank = places.iter().filter(|&&x| x < stride).count();
+                    section.extend([(rank / 256) as u8, (rank % 256) as u8]);
+                }
+                let mut bitmap = vec![0; 8192];
+                places.iter().for_each(|&x| bitmap[x / 8] |= 1 << (x % 8));
+                section.extend(bitmap);
+            }
+        }
+        before += places.len();
+    }
+    entries.push((before, section.len()));
+    if entries.len() == 2 {
+        entries.clear();
+    }
+    section.extend([0xFF, 0x7F, 0, 0, 0xFF, 0xFF]);
+    for &(ids, start) in &entries {
+        put_low_first(&mut section, ids, 4);
+        put_low_first(&mut section, start, 4);
+    }
+
+    let exact: Vec<i128> = pairs.values().map(|&v| i128::from(v)).collect();
+    let smallest = exact.iter().copied().min().unwrap_or(0);
+    let greatest = exact.iter().copied().max().unwrap_or(0);
+    let mut divisor = 1;
+    if smallest != greatest {
+        divisor = exact.iter().fold(0, |a, &v| plain_gcd(a, v.unsigned_abs()));
+    }
+    let spread = (greatest - smallest) as u128 / divisor;
+    let width = (0..).find(|&w| spread < 1 << w).unwrap_or(0);
+    let mut bits = Vec::new();
+    for v in exact {
+        let stored = (v - smallest) as u128 / divisor;
+        bits.extend((0..width).rev().map(|bit| stored >> bit & 1 == 1));
+    }
+    let mut packed = vec![0u8; bits.len().div_ceil(8)];
+    for (j, _) in bits.iter().enumerate().filter(|(_, &bit)| bit) {
+        packed[j / 8] |= 1 << (7 - j % 8);
+    }
+
+    let least = if smallest >= 0 {
+        2 * smallest
+    } else {
+        -2 * smallest - 1
+    };
+    let mut out = Vec::new();
+    for number in [
+        1,
+        pairs.len(),
+        power as usize,
+        section.len(),
+        entries.len(),
+        width,
+    ] {
+        put_number(&mut out, number as u128);
+    }
+    put_number(&mut out, least as u128);
+    put_number(&mut out, divisor);
+    put_number(&mut out, packed.len() as u128);
+    out.extend(section);
+    out.extend(packed);
+    out
+}
+
+fn plain_gcd(a: u128, b: u128) -> u128 {
+    if b == 0 {
+        a
+    } else {
+        plain_gcd(b, a % b)
+    }
+}
+
+/// A small generator (xorshift with a multiplied output).
+struct Random(u64);
+
+impl Random {
+    fn next(&mut self) -> u64 {
+        self.0 ^= self.0 >> 12;
+        self.0 ^= self.0 << 25;
+        self.0 ^= self.0 >> 27;
+        self.0.wrapping_mul(0x2545_F491_4F6C_DD1D)
+    }
+
+    fn below(&mut self, bound: u64) -> u64 {
+        self.next() % bound
+    }
+}
+
+fn some_pairs(random: &mut Random) -> BTreeMap<u32, i64> {
+    let mut ids = Vec::new();
+    for _ in 0..random.below(4) {
+        let number = [0, 1, 2, 3, 9, 200][random.below(6) as usize];
+        let count = [1, 3, 100, 4095, 4096, 20000, 65535, 65536][random.below(8) as usize];
+        let mut places: Vec<u32> = (0..65536).collect();
+        for i in 0..count {
+            places.swap(i, i + random.below((65536 - i) as u64) as usize);
+        }
+        ids.extend(places[..count].iter().map(|x| (number << 16) | x));
+    }
+    let step = [1, 5, 1 << 20, i64::MAX][random.below(4) as usize];
+    let width = random.below(64);
+    ids.into_iter()
+        .map(|id| (id, (random.next() as i64 >> width).wrapping_mul(step)))
+        .collect()
+}
+
+#[test]
+fn writes_as_the_plain_writer_does() {
+    let mut random = Random(1);
+    for round in 0..60 {
+        let pairs = some_pairs(&mut random);
+        let power = [0, 7, 8, 9, 10, 11, 12, 13, 14, 15][round % 10];
+        let ids: Vec<u32> = pairs.keys().copied().collect();
+        let values: Vec<i64> = pairs.values().copied().collect();
+        let column = plain_column(&pairs, power);
+        let mut out = vec![0xAA; column.len()];
+        assert_eq!(
+            write(&ids, &values, power, &mut out),
+            Ok(column.len() as u64)
+        );
+        assert!(out == column, "round {round}");
+
+        assert_eq!(check(&column), Ok(ids.len() as u64));
+        let mut read_ids = vec![0; ids.len()];
+        let mut read_values = vec![0; ids.len()];
+        let count = read(&column, &mut read_ids, &mut read_values);
+        assert_eq!(count, Ok(ids.len() as u64));
+        assert!(read_ids == ids && read_values == values, "round {round}");
+    }
+}
+
+#[test]
+fn packs_small_lists_as_the_plain_writer_does() {
+    let mut random = Random(2);
+    for _ in 0..20_000 {
+        let mut pairs = BTreeMap::new();
+        let width = random.below(65) as u32;
+        for id in 0..random.below(20) as u32 {
+            let value = random.next().checked_shr(width).unwrap_or(0) as i64;
+            pairs.insert(id, value.wrapping_sub(random.below(3) as i64));
+        }
+        let ids: Vec<u32> = pairs.keys().copied().collect();
+        let values: Vec<i64> = pairs.values().copied().collect();
+        let column = plain_column(&pairs, 9);
+        let mut out = vec![0xAA; column.len()];
+        assert_eq!(write(&ids, &values, 9, &mut out), Ok(column.len() as u64));
+        assert_eq!(out, column);
+        assert_eq!(check(&column), Ok(ids.len() as u64));
+    }
+}
+
+#[test]
+fn looks_up_what_the_list_holds() {
+    let mut random = Random(3);
+    for round in 0..30 {
+        let pairs = some_pairs(&mut random);
+        let power = [0, 7, 9, 12, 15][round % 5];
+        let column = plain_column(&pairs, power);
+        let opened = open(&column).expect("a written column opens");
+        let listed: Vec<u32> = pairs.keys().copied().collect();
+        for _ in 0..500 {
+            let id = match random.below(3) {
+                0 => random.below(u64::from(MAX_ID)) as u32,
+                1 => random.below(300 << 16) as u32,
+                _ if listed.is_empty() => 0,
+                _ => listed[random.below(listed.len() as u64) as usize],
+            };
+            let block = listed.partition_point(|x| x >> 16 < id >> 16)
+                ..listed.partition_point(|x| x >> 16 <= id >> 16);
+            let dense = (4096..65536).contains(&block.len());
+            let (r, stride) = (
+                u64::from(id % 65536),
+                if power == 0 { 10 } else { power - 6 },
+            );
+            let answer = match listed.binary_search(&id) {
+                Ok(ordinal) => Answer::Found {
+                    ordinal: ordinal as u64,
+                    value: pairs[&id],
+                    words: u64::from(dense) * ((r / 64) % (1 << stride) + 1),
+                },
+                Err(_) => Answer::Absent {
+                    words: u64::from(dense),
+                },
+            };
+            assert_eq!(look_up(&column, id), Ok(answer), "round {round} id {id}");
+            assert_eq!(look_up_in(&opened, &column, id), Ok(answer));
+        }
+    }
+}

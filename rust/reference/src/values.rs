@@ -1,0 +1,164 @@
+//! The value section: smallest value, divisor, width, and the packed numbers.
+
+use crate::Column;
+
+/// n times w over 8, rounded up.
+pub(crate) fn section_bytes(count: u64, width: u64) -> u64 {
+    (count * width).div_ceil(8)
+}
+
+/// How a list of values is stored.
+pub(crate) struct Plan {
+    pub smallest: i64,
+    pub divisor: u64,
+    pub width: u32,
+}
+
+impl Plan {
+    pub fn of(values: &[i64]) -> Self {
+        let smallest = values.iter().copied().min().unwrap_or(0);
+        let greatest = values.iter().copied().max().unwrap_or(0);
+        if smallest == greatest {
+            return Self {
+                smallest,
+                divisor: 1,
+                width: 0,
+            };
+        }
+        let divisor = divisor(values.iter().copied());
+        let most = greatest.abs_diff(smallest) / divisor;
+        Self {
+            smallest,
+            divisor,
+            width: 64 - most.leading_zeros(),
+        }
+    }
+
+    /// Packs the values; `out` has exactly their bytes.
+    pub fn write(&self, values: &[i64], out: &mut [u8]) {
+        if self.width == 0 {
+            return;
+        }
+        if self.divisor == 1 {
+            pack(out, self.width, values, |v| v.abs_diff(self.smallest));
+        } else {
+            pack(out, self.width, values, |v| {
+                v.abs_diff(self.smallest) / self.divisor
+            });
+        }
+    }
+}
+
+/// The greatest common divisor of the values taken without sign; 0 if there is none but 0.
+fn divisor(values: impl Iterator<Item = i64>) -> u64 {
+    let mut divisor = 0;
+    for value in values {
+        divisor = gcd(divisor, value.unsigned_abs());
+        if divisor == 1 {
+            break;
+        }
+    }
+    divisor
+}
+
+fn gcd(mut a: u64, mut b: u64) -> u64 {
+    while a != 0 {
+        (a, b) = (b % a, a);
+    }
+    b
+}
+
+/// Stored numbers one after the other, high bit first; the spare bits of the last byte are 0.
+fn pack(out: &mut [u8], width: u32, values: &[i64], stored: impl Fn(i64) -> u64) {
+    let mut words = out.chunks_mut(8);
+    // The low `waiting` bits are not written yet: fewer than 64 before each value.
+    let mut bits: u128 = 0;
+    let mut waiting = 0;
+    for &value in values {
+        bits = (bits << width) | u128::from(stored(value));
+        waiting += width;
+        if waiting >= 64 {
+            waiting -= 64;
+            if let Some(word) = words.next() {
+                word.copy_from_slice(&((bits >> waiting) as u64).to_be_bytes());
+            }
+        }
+    }
+    if let Some(tail) = words.next() {
+        let last = ((bits << (64 - waiting)) as u64).to_be_bytes();
+        tail.copy_from_slice(&last[..tail.len()]);
+    }
+}
+
+/// Stored number `i`.
+#[inline]
+pub(crate) fn fetch(section: &[u8], width: u32, i: usize) -> u64 {
+    if width == 0 {
+        return 0;
+    }
+    let bit = i * width as usize;
+    let (byte, skip) = (bit / 8, bit % 8);
+    // 64 bits from an unaligned place touch up to nine bytes.
+    let [eight @ .., next] = match section[byte..].first_chunk::<9>() {
+        Some(&nine) => nine,
+        None => {
+            let mut nine = [0; 9];
+            nine[..section.len() - byte].copy_from_slice(&section[byte..]);
+            nine
+        }
+    };
+    let bits = (u64::from_be_bytes(eight) << skip) | (u64::from(next) >> (8 - skip));
+    bits >> (64 - width)
+}
+
+/// smallest + g times the stored number, if it fits in a signed 64-bit number.
+#[inline]
+pub(crate) fn value_of(column: &Column, stored: u64) -> Option<i64> {
+    let offset = column.step.checked_mul(stored)?;
+    column.smallest().checked_add_unsigned(offset)
+}
+
+/// All values, of a section known to be sound.
+pub(crate) fn read(column: &Column, section: &[u8], values: &mut [i64]) {
+    let (smallest, width) = (column.smallest(), column.bits as u32);
+    if width == 0 {
+        values.fill(smallest);
+        return;
+    }
+    for (i, value) in values.iter_mut().enumerate() {
+        let offset = column.step.wrapping_mul(fetch(section, width, i));
+        *value = smallest.wrapping_add_unsigned(offset);
+    }
+}
+
+/// Whether the section, with the header's smallest value, divisor and width, is what the writer
+/// makes of the values that it stands for.
+pub(crate) fn sound(column: &Column, section: &[u8]) -> bool {
+    let (count, width) = (column.count as usize, column.bits as u32);
+    if width == 0 {
+        // All values are equal, or there are none.
+        return column.step == 1 && (count > 0 || column.least == 0);
+    }
+    let spare = section.len() * 8 - count * width as usize;
+    let spare_clear = section
+        .last()
+        .is_none_or(|last| last & ((1 << spare) - 1) == 0);
+    let smallest = column.smallest();
+    let (mut low, mut high) = (u64::MAX, 0);
+    let mut divisor = 0;
+    for i in 0..count {
+        let stored = fetch(section, width, i);
+        low = low.min(stored);
+        high = high.max(stored);
+        if divisor != 1 {
+            // A value that wraps is above the greatest one that fits: `value_of` tells below.
+            let value = smallest.wrapping_add_unsigned(column.step.wrapping_mul(stored));
+            divisor = gcd(divisor, value.unsigned_abs());
+        }
+    }
+    spare_clear
+        && low == 0
+        && high >> (width - 1) == 1
+        && value_of(column, high).is_some()
+        && divisor == column.step
+}

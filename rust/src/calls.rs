@@ -1,0 +1,190 @@
+//! The calls, with Rust's own types.
+
+use crate::{ffi, Refusal};
+
+/// What a look-up answers, where it does not refuse.
+#[derive(Clone, Copy, Debug, PartialEq, Eq, Hash)]
+pub enum Answer {
+    /// The id is listed.
+    Found {
+        /// Its index in the list of pairs, from 0.
+        ordinal: u64,
+        /// Its value.
+        value: i64,
+        /// How many 64-bit words of a bitmap were looked at.
+        words: u64,
+    },
+    /// The id is not listed.
+    Absent {
+        /// How many 64-bit words of a bitmap were looked at.
+        words: u64,
+    },
+}
+
+impl Answer {
+    /// The value, if the id is listed.
+    ///
+    /// ```
+    /// let column = signalfern::write_to_vec(&[8], &[-3], 9)?;
+    /// assert_eq!(signalfern::look_up(&column, 8)?.value(), Some(-3));
+    /// assert_eq!(signalfern::look_up(&column, 9)?.value(), None);
+    /// # Ok::<(), signalfern::Refusal>(())
+    /// ```
+    pub const fn value(self) -> Option<i64> {
+        match self {
+            Self::Found { value, .. } => Some(value),
+            Self::Absent { .. } => None,
+        }
+    }
+}
+
+fn number(reply: ffi::Reply) -> Result<u64, Refusal> {
+    match reply.refusal {
+        0 => Ok(reply.number),
+        refusal => Err(Refusal::from_numbers(refusal, reply.number)),
+    }
+}
+
+/// A number that counts elements of a slice lent to the call.
+fn len(reply: ffi::Reply) -> Result<usize, Refusal> {
+    number(reply).map(|number| usize::try_from(number).expect("no slice is longer"))
+}
+
+#[inline]
+pub(crate) fn answer(answer: ffi::Answer) -> Result<Answer, Refusal> {
+    match answer.kind {
+        0 => Ok(Answer::Found {
+            ordinal: answer.ordinal,
+            value: answer.value,
+            words: answer.words,
+        }),
+        1 => Ok(Answer::Absent {
+            words: answer.words,
+        }),
+        refusal => Err(Refusal::from_numbers(refusal, answer.number)),
+    }
+}
+
+/// Writes the column of the pairs `(ids[i], values[i])` to the front of `out`, and gives its byte
+/// count. The bytes of `out` after it stay as they were.
+///
+/// `power` is the rank power: 0 for no ranks, or 7 to 15 for one rank to every 2^power ids of a
+/// block that is stored as a bitmap. 9 is a good choice.
+///
+/// ```
+/// let mut out = [0xAA; 30];
+/// let len = signalfern::write(&[0, 2, 7], &[150, 140, 135], 9, &mut out)?;
+/// assert_eq!(len, 27);
+/// assert_eq!(out[27..], [0xAA; 3]);
+/// # Ok::<(), signalfern::Refusal>(())
+/// ```
+///
+/// # Errors
+///
+/// The first that applies of [`Refusal::Lengths`], [`Refusal::Power`], [`Refusal::Order`],
+/// [`Refusal::Range`], [`Refusal::Offset`] and [`Refusal::Room`]; `out` then stays as it was.
+pub fn write(ids: &[u32], values: &[i64], power: u32, out: &mut [u8]) -> Result<usize, Refusal> {
+    len(ffi::write(ids, values, power, out))
+}
+
+/// Writes the column of the pairs to a vector of just its length. See [`write()`].
+///
+/// ```
+/// let empty = signalfern::write_to_vec(&[], &[], 9)?;
+/// assert_eq!(empty.len(), 23);
+/// # Ok::<(), signalfern::Refusal>(())
+/// ```
+///
+/// # Errors
+///
+/// Those of [`write()`], but for [`Refusal::Room`].
+pub fn write_to_vec(ids: &[u32], values: &[i64], power: u32) -> Result<Vec<u8>, Refusal> {
+    let mut column = Vec::new();
+    match write(ids, values, power, &mut column) {
+        // No column is empty, so the first call asks for room.
+        Err(Refusal::Room { needed }) => column.resize(needed, 0),
+        other => return other.map(|_| column),
+    }
+    write(ids, values, power, &mut column)?;
+    Ok(column)
+}
+
+/// Tells whether the bytes are a column to the last bit, and gives its count of pairs.
+///
+/// Accepted bytes are the column of just one list of pairs. The time grows with the bytes and not
+/// with the pairs.
+///
+/// ```
+/// use signalfern::Refusal;
+///
+/// let mut column = signalfern::write_to_vec(&[0, 2, 7], &[150, 140, 135], 9)?;
+/// assert_eq!(signalfern::check(&column), Ok(3));
+/// *column.last_mut().unwrap() |= 1;
+/// assert_eq!(signalfern::check(&column), Err(Refusal::Damaged));
+/// assert_eq!(signalfern::check(&column[..20]), Err(Refusal::Length));
+/// # Ok::<(), Refusal>(())
+/// ```
+///
+/// # Errors
+///
+/// Those of [`Column::open`](crate::Column::open), then [`Refusal::Damaged`].
+pub fn check(bytes: &[u8]) -> Result<u64, Refusal> {
+    number(ffi::check(bytes))
+}
+
+/// Reads all pairs into the first places of `ids` and `values`, and gives their count. The places
+/// after them stay as they were. The bytes are checked in full first.
+///
+/// ```
+/// let column = signalfern::write_to_vec(&[0, 2, 7], &[150, 140, 135], 9)?;
+/// let (mut ids, mut values) = ([9; 4], [9; 4]);
+/// let count = signalfern::read(&column, &mut ids, &mut values)?;
+/// assert_eq!(count, 3);
+/// assert_eq!((ids, values), ([0, 2, 7, 9], [150, 140, 135, 9]));
+/// # Ok::<(), signalfern::Refusal>(())
+/// ```
+///
+/// # Errors
+///
+/// Those of [`Column::open`](crate::Column::open), then [`Refusal::Buffer`], then
+/// [`Refusal::Damaged`]; both buffers then stay as they were.
+pub fn read(bytes: &[u8], ids: &mut [u32], values: &mut [i64]) -> Result<usize, Refusal> {
+    len(ffi::read(bytes, ids, values))
+}
+
+/// Reads all pairs into two vectors of just their count. See [`read`].
+///
+/// The bytes are checked before anything is allocated, so a header that claims too much costs
+/// nothing. But a sound column can be far smaller than its pairs: 393 KB may hold 2147352576 of
+/// them. [`check`] tells the count first.
+///
+/// ```
+/// let column = signalfern::write_to_vec(&[0, 2, 7], &[150, 140, 135], 9)?;
+/// let (ids, values) = signalfern::read_to_vecs(&column)?;
+/// assert_eq!((ids, values), (vec![0, 2, 7], vec![150, 140, 135]));
+/// # Ok::<(), signalfern::Refusal>(())
+/// ```
+///
+/// # Errors
+///
+/// Those of [`check`].
+pub fn read_to_vecs(bytes: &[u8]) -> Result<(Vec<u32>, Vec<i64>), Refusal> {
+    let count = len(ffi::check(bytes))?;
+    let (mut ids, mut values) = (vec![0; count], vec![0; count]);
+    read(bytes, &mut ids, &mut values)?;
+    Ok((ids, values))
+}
+
+/// Looks one id up, without reading the whole column.
+///
+/// On bytes that [`check`] accepts the answer is that of the list of pairs. Other bytes are not
+/// checked in full: the answer is then the one that the steps of document 01 fix. For many look-ups
+/// of one column, open it once: [`Column::open`](crate::Column::open).
+///
+/// # Errors
+///
+/// [`Refusal::Id`], then those of [`Column::open`](crate::Column::open), then [`Refusal::Broken`].
+#[inline]
+pub fn look_up(bytes: &[u8], id: u32) -> Result<Answer, Refusal> {
+    answer(ffi::look_up(bytes, id))
+}

@@ -1,0 +1,113 @@
+//! The C boundary of the proved calls (`include/signalfern.h`), and all `unsafe` of this package.
+//!
+//! Nothing checks these declarations against the archive but the tests; they stand beside the
+//! header's in the same order. Each function below lends whole slices, so the borrow checker keeps
+//! the header's pointer rules: alive, aligned, as long as said, and what is written to is lent once.
+#![allow(unsafe_code)]
+
+#[repr(C)]
+#[derive(Clone, Copy)]
+pub(crate) struct Reply {
+    pub refusal: u64,
+    pub number: u64,
+}
+
+#[repr(C)]
+#[derive(Clone, Copy)]
+pub(crate) struct Answer {
+    pub kind: u64,
+    pub number: u64,
+    pub ordinal: u64,
+    pub value: i64,
+    pub words: u64,
+}
+
+#[repr(C)]
+#[derive(Clone, Copy)]
+pub(crate) struct Column {
+    pub refusal: u64,
+    pub number: u64,
+    pub count: u64,
+    pub power: u64,
+    pub id_bytes: u64,
+    pub jump_count: u64,
+    pub bits: u64,
+    pub least: u64,
+    pub step: u64,
+    pub value_bytes: u64,
+    pub start: u64,
+}
+
+extern "C" {
+    fn signalfern_write(
+        ids: *const u32,
+        ids_len: usize,
+        values: *const i64,
+        values_len: usize,
+        power: u32,
+        out: *mut u8,
+        out_len: usize,
+    ) -> Reply;
+    fn signalfern_check(bytes: *const u8, len: usize) -> Reply;
+    fn signalfern_read(
+        bytes: *const u8,
+        len: usize,
+        ids: *mut u32,
+        ids_len: usize,
+        values: *mut i64,
+        values_len: usize,
+    ) -> Reply;
+    fn signalfern_look_up(bytes: *const u8, len: usize, id: u32) -> Answer;
+    fn signalfern_open(bytes: *const u8, len: usize) -> Column;
+    fn signalfern_look_up_in(column: Column, bytes: *const u8, len: usize, id: u32) -> Answer;
+}
+
+pub(crate) fn write(ids: &[u32], values: &[i64], power: u32, out: &mut [u8]) -> Reply {
+    // SAFETY: three slices with their own lengths; `out` is borrowed for this call alone.
+    unsafe {
+        signalfern_write(
+            ids.as_ptr(),
+            ids.len(),
+            values.as_ptr(),
+            values.len(),
+            power,
+            out.as_mut_ptr(),
+            out.len(),
+        )
+    }
+}
+
+pub(crate) fn check(bytes: &[u8]) -> Reply {
+    // SAFETY: a slice with its own length, only read.
+    unsafe { signalfern_check(bytes.as_ptr(), bytes.len()) }
+}
+
+pub(crate) fn read(bytes: &[u8], ids: &mut [u32], values: &mut [i64]) -> Reply {
+    // SAFETY: three slices with their own lengths; `ids` and `values` are borrowed for this call
+    // alone.
+    unsafe {
+        signalfern_read(
+            bytes.as_ptr(),
+            bytes.len(),
+            ids.as_mut_ptr(),
+            ids.len(),
+            values.as_mut_ptr(),
+            values.len(),
+        )
+    }
+}
+
+pub(crate) fn look_up(bytes: &[u8], id: u32) -> Answer {
+    // SAFETY: a slice with its own length, only read.
+    unsafe { signalfern_look_up(bytes.as_ptr(), bytes.len(), id) }
+}
+
+pub(crate) fn open(bytes: &[u8]) -> Column {
+    // SAFETY: a slice with its own length, only read.
+    unsafe { signalfern_open(bytes.as_ptr(), bytes.len()) }
+}
+
+pub(crate) fn look_up_in(column: Column, bytes: &[u8], id: u32) -> Answer {
+    // SAFETY: a slice with its own length, only read; the call takes any column.
+    unsafe { signalfern_look_up_in(column, bytes.as_ptr(), bytes.len(), id) }
+}

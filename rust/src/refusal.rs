@@ -1,0 +1,216 @@
+//! The fifteen refusals.
+
+use std::error::Error;
+use std::fmt;
+
+/// Why a call refused. The order is that of document 01's table.
+#[derive(Clone, Copy, Debug, PartialEq, Eq, Hash)]
+#[non_exhaustive]
+pub enum Refusal {
+    /// Ids and values differ in count.
+    Lengths,
+    /// The rank power is not allowed.
+    Power,
+    /// An id is not above the one before.
+    Order {
+        /// The first such index.
+        index: usize,
+    },
+    /// An id is above [`MAX_ID`](crate::MAX_ID).
+    Range {
+        /// The first such index.
+        index: usize,
+    },
+    /// A block would start at 2147483647 or later. The limits of ids keep every block below that.
+    Offset,
+    /// The output is shorter than the column.
+    Room {
+        /// The column's bytes.
+        needed: usize,
+    },
+    /// The bytes end within a header number.
+    Short,
+    /// A header number is not minimal, or is 2^64 or more.
+    Number,
+    /// The first header number is not 1.
+    Edition,
+    /// A header rule is broken.
+    Header,
+    /// Header, id section and value section together are not the byte count.
+    Length,
+    /// The ids or the values buffer is shorter than the column's count of pairs.
+    Buffer {
+        /// The count of pairs that the header claims.
+        needed: usize,
+    },
+    /// The bytes are no column of any pair list.
+    Damaged,
+    /// The looked-up id is above [`MAX_ID`](crate::MAX_ID).
+    Id,
+    /// A step of the look-up failed.
+    Broken,
+}
+
+impl Refusal {
+    /// The refusal with this number, and the number with it.
+    pub(crate) fn from_numbers(number: u64, with: u64) -> Self {
+        let with = usize::try_from(with).expect("the archive is for 64-bit machines");
+        match number {
+            1 => Self::Lengths,
+            2 => Self::Power,
+            3 => Self::Order { index: with },
+            4 => Self::Range { index: with },
+            5 => Self::Offset,
+            6 => Self::Room { needed: with },
+            7 => Self::Short,
+            8 => Self::Number,
+            9 => Self::Edition,
+            10 => Self::Header,
+            11 => Self::Length,
+            12 => Self::Buffer { needed: with },
+            13 => Self::Damaged,
+            14 => Self::Id,
+            15 => Self::Broken,
+            _ => panic!("libsignalfern_c gave refusal {number}, which does not exist"),
+        }
+    }
+
+    /// The number in document 01, 1 to 15.
+    pub const fn number(self) -> u64 {
+        match self {
+            Self::Lengths => 1,
+            Self::Power => 2,
+            Self::Order { .. } => 3,
+            Self::Range { .. } => 4,
+            Self::Offset => 5,
+            Self::Room { .. } => 6,
+            Self::Short => 7,
+            Self::Number => 8,
+            Self::Edition => 9,
+            Self::Header => 10,
+            Self::Length => 11,
+            Self::Buffer { .. } => 12,
+            Self::Damaged => 13,
+            Self::Id => 14,
+            Self::Broken => 15,
+        }
+    }
+
+    /// The number with the refusal: an index, the bytes or the places needed, or 0.
+    pub const fn number_with(self) -> u64 {
+        match self {
+            Self::Order { index } | Self::Range { index } => index as u64,
+            Self::Room { needed } | Self::Buffer { needed } => needed as u64,
+            _ => 0,
+        }
+    }
+
+    /// The name in document 01.
+    pub const fn name(self) -> &'static str {
+        match self {
+            Self::Lengths => "LENGTHS",
+            Self::Power => "POWER",
+            Self::Order { .. } => "ORDER",
+            Self::Range { .. } => "RANGE",
+            Self::Offset => "OFFSET",
+            Self::Room { .. } => "ROOM",
+            Self::Short => "SHORT",
+            Self::Number => "NUMBER",
+            Self::Edition => "EDITION",
+            Self::Header => "HEADER",
+            Self::Length => "LENGTH",
+            Self::Buffer { .. } => "BUFFER",
+            Self::Damaged => "DAMAGED",
+            Self::Id => "ID",
+            Self::Broken => "BROKEN",
+        }
+    }
+}
+
+/// A sentence that says what is wrong and, where that helps, what to do.
+impl fmt::Display for Refusal {
+    fn fmt(&self, f: &mut fmt::Formatter<'_>) -> fmt::Result {
+        match self {
+            Self::Lengths => write!(f, "there are not as many values as ids"),
+            Self::Power => write!(f, "the rank power must be 0 (no ranks) or 7 to 15"),
+            Self::Order { index } => write!(
+                f,
+                "ids must ascend, and the id at index {index} is not above the one before it"
+            ),
+            Self::Range { index } => write!(
+                f,
+                "the id at index {index} is above the greatest allowed, {}",
+                crate::MAX_ID
+            ),
+            Self::Offset => write!(f, "a block of ids would start at byte 2147483647 or later"),
+            Self::Room { needed } => write!(
+                f,
+                "the output is too short: the column takes {needed} bytes"
+            ),
+            Self::Short => write!(
+                f,
+                "the bytes end within the header: the column is empty or cut off"
+            ),
+            Self::Number => write!(
+                f,
+                "a number of the header is not in its shortest form or needs more than 64 bits: \
+                 the header is damaged, or this is no column"
+            ),
+            Self::Edition => write!(
+                f,
+                "the first number is not 1: this is no column, or one of another edition"
+            ),
+            Self::Header => write!(
+                f,
+                "the numbers of the header break a rule (a limit, or sizes that do not agree)"
+            ),
+            Self::Length => write!(
+                f,
+                "the header tells of more or fewer bytes than there are: the column is cut off or \
+                 something follows it"
+            ),
+            Self::Buffer { needed } => write!(
+                f,
+                "the buffers are too short: the header tells of {needed} pairs"
+            ),
+            Self::Damaged => write!(
+                f,
+                "the header is sound, but what follows is not the column of any list of pairs"
+            ),
+            Self::Id => write!(
+                f,
+                "the id looked up is above the greatest allowed, {}",
+                crate::MAX_ID
+            ),
+            Self::Broken => write!(
+                f,
+                "the look-up met bytes that cannot be right: the column is damaged"
+            ),
+        }
+    }
+}
+
+impl Error for Refusal {}
+
+#[cfg(test)]
+mod tests {
+    use super::Refusal;
+
+    #[test]
+    fn numbers_go_there_and_back() {
+        for number in 1..=15 {
+            let refusal = Refusal::from_numbers(number, 77);
+            assert_eq!(refusal.number(), number);
+            let carries = matches!(refusal.name(), "ORDER" | "RANGE" | "ROOM" | "BUFFER");
+            assert_eq!(refusal.number_with(), if carries { 77 } else { 0 });
+            assert_eq!(refusal.to_string().contains("77"), carries);
+            assert_eq!(refusal.name(), refusal.name().to_uppercase());
+        }
+    }
+
+    #[test]
+    #[should_panic = "does not exist"]
+    fn a_number_outside_the_table_is_no_refusal() {
+        Refusal::from_numbers(16, 0);
+    }
+}

@@ -1,0 +1,75 @@
+//! C programs built with gcc against the header and the archive.
+
+use std::path::{Path, PathBuf};
+use std::process::Command;
+
+/// Where the build script put the archive.
+const ARCHIVE_DIR: &str = env!("SIGNALFERN_ARCHIVE_DIR");
+
+/// Builds a C program, runs it and gives what it printed.
+fn build_and_run(source: &Path, compiler: &[&str]) -> String {
+    let root = Path::new(env!("CARGO_MANIFEST_DIR")).join("..");
+    let name = source.file_stem().unwrap().to_str().unwrap();
+    let program = PathBuf::from(env!("CARGO_TARGET_TMPDIR")).join(name);
+    let built = Command::new("gcc")
+        .args(compiler)
+        .args(["-Wall", "-Wextra", "-Wpedantic", "-Werror", "-O1", "-I"])
+        .arg(root.join("include"))
+        .arg(root.join(source))
+        .args(["-x", "none", "-L", ARCHIVE_DIR, "-lsignalfern_c", "-o"])
+        .arg(&program)
+        .output()
+        .expect("gcc is installed");
+    let errors = String::from_utf8_lossy(&built.stderr);
+    assert!(built.status.success(), "gcc: {errors}");
+    let run = Command::new(&program).output().expect("the program runs");
+    let printed = String::from_utf8(run.stdout).expect("text");
+    assert!(run.status.success(), "{}: {printed}", run.status);
+    printed
+}
+
+#[test]
+fn the_example_writes_checks_reads_and_looks_up() {
+    let printed = build_and_run(Path::new("examples/column.c"), &["-std=c99"]);
+    let expected = "\
+27 bytes, 3 pairs
+0 150
+2 140
+7 135
+id 7: kind 0, ordinal 2, value 135
+id 5: kind 1
+";
+    assert_eq!(printed, expected);
+}
+
+#[test]
+fn the_boundary_is_as_the_header_says() {
+    build_and_run(Path::new("rust/tests/boundary.c"), &["-std=c11"]);
+}
+
+#[test]
+fn the_header_is_good_cplusplus() {
+    let source = Path::new("rust/tests/boundary.c");
+    let root = Path::new(env!("CARGO_MANIFEST_DIR")).join("..");
+    let parsed = Command::new("gcc")
+        .args([
+            "-std=c++11",
+            "-x",
+            "c++",
+            "-fsyntax-only",
+            "-Wall",
+            "-Wextra",
+            "-Werror",
+            "-I",
+        ])
+        .arg(root.join("include"))
+        .arg(root.join(source))
+        .output()
+        .expect("gcc is installed");
+    let errors = String::from_utf8_lossy(&parsed.stderr);
+    // The C++ front end is a package of its own.
+    assert!(
+        parsed.status.success() || errors.contains("cc1plus"),
+        "gcc: {errors}"
+    );
+}

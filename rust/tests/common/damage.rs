@@ -1,0 +1,94 @@
+//! Columns to damage, and every call on what becomes of them.
+
+use signalfern::{Refusal, MAX_ID};
+
+use super::{few_ids, ids_of, same, values_of_width, Random, POWERS};
+
+/// How often each refusal came; 0 is for accepted bytes.
+#[derive(Default)]
+pub struct Tally(pub [usize; 16]);
+
+impl Tally {
+    /// Tries every call on the bytes.
+    pub fn try_all(&mut self, bytes: &[u8], asked: &[u32]) {
+        let checked = same::check(bytes);
+        self.count(checked.err());
+        let places = checked.map_or(8, |count| count as usize);
+        if places <= 200_000 {
+            let read = same::read(bytes, places, places + 1);
+            self.count(read.as_ref().err().copied());
+            if let Ok((ids, values)) = read {
+                // Accepted bytes are the column of what is read.
+                let power = same::open(bytes).unwrap().power as u32;
+                assert!(signalfern::write_to_vec(&ids, &values, power).unwrap() == bytes);
+            }
+        }
+        let opened = same::open(bytes);
+        for &id in asked {
+            let answer = same::look_up(bytes, id);
+            self.count(answer.err());
+            if let Ok(column) = opened {
+                assert_eq!(same::look_up_in(column, bytes, id), answer);
+            }
+        }
+    }
+
+    pub fn count(&mut self, refusal: Option<Refusal>) {
+        self.0[refusal.map_or(0, |refusal| refusal.number() as usize)] += 1;
+    }
+
+    #[track_caller]
+    pub fn has(&self, numbers: &[usize]) {
+        for &number in numbers {
+            assert!(self.0[number] > 0, "no {number} among {:?}", self.0);
+        }
+    }
+}
+
+pub fn small_columns(random: &mut Random) -> Vec<Vec<u8>> {
+    let mut columns = vec![
+        signalfern::write_to_vec(&[], &[], 9).unwrap(),
+        signalfern::write_to_vec(&[0, 2, 7], &[150, 140, 135], 9).unwrap(),
+        signalfern::write_to_vec(&[65_536], &[-1], 0).unwrap(),
+        signalfern::write_to_vec(&[1, 2], &[i64::MIN, i64::MAX], 7).unwrap(),
+    ];
+    for _ in 0..12 {
+        let ids = few_ids(random, 8);
+        let width = random.below(65) as u32;
+        let values = values_of_width(random, ids.len(), width);
+        columns.push(signalfern::write_to_vec(&ids, &values, random.pick(&POWERS)).unwrap());
+    }
+    columns.retain(|column| column.len() < 400);
+    columns
+}
+
+/// Ids to ask for: near the listed ones, and the limits.
+pub fn asked(column: &[u8]) -> Vec<u32> {
+    let (ids, _) = signalfern::read_to_vecs(column).unwrap();
+    let mut asked = vec![0, 65_536, MAX_ID, MAX_ID + 1, u32::MAX];
+    let step = ids.len().div_ceil(12).max(1);
+    for &id in ids.iter().step_by(step) {
+        asked.extend([id, id + 1, id.saturating_sub(1)]);
+    }
+    asked
+}
+
+pub fn large_columns(random: &mut Random) -> Vec<Vec<u8>> {
+    let lists: [&[(u32, usize)]; 6] = [
+        &[(0, 4096)],
+        &[(0, 65_536), (1, 4000)],
+        &[(3, 4095), (5, 5000)],
+        &[(0, 60_000), (1, 65_535)],
+        &[(2, 65_536), (3, 65_536), (4, 10)],
+        &[(0, 100), (7, 4500), (8, 3)],
+    ];
+    let mut columns = Vec::new();
+    for blocks in lists {
+        let ids = ids_of(random, blocks);
+        let values = values_of_width(random, ids.len(), 3);
+        for power in [0, random.pick(&POWERS[1..])] {
+            columns.push(signalfern::write_to_vec(&ids, &values, power).unwrap());
+        }
+    }
+    columns
+}

@@ -1,0 +1,90 @@
+//! What the integration tests share: a generator, lists of pairs, columns taken apart, and each call
+//! beside the reference.
+#![allow(dead_code, reason = "no test uses all of it")]
+
+pub mod damage;
+pub mod parts;
+pub mod same;
+pub mod tool;
+
+/// A small generator (xorshift with a multiplied output), so that every run tests the same inputs.
+pub struct Random(u64);
+
+impl Random {
+    pub fn new(seed: u64) -> Self {
+        Self(seed.wrapping_mul(0x9E37_79B9_7F4A_7C15) | 1)
+    }
+
+    pub fn next(&mut self) -> u64 {
+        self.0 ^= self.0 >> 12;
+        self.0 ^= self.0 << 25;
+        self.0 ^= self.0 >> 27;
+        self.0.wrapping_mul(0x2545_F491_4F6C_DD1D)
+    }
+
+    pub fn below(&mut self, bound: usize) -> usize {
+        (self.next() >> 16) as usize % bound
+    }
+
+    pub fn pick<T: Copy>(&mut self, choices: &[T]) -> T {
+        choices[self.below(choices.len())]
+    }
+
+    pub fn one_in(&mut self, chances: usize) -> bool {
+        self.below(chances) == 0
+    }
+}
+
+/// The allowed rank powers.
+pub const POWERS: [u32; 10] = [0, 7, 8, 9, 10, 11, 12, 13, 14, 15];
+
+/// Counts at and around the borders of the block kinds.
+pub const BLOCK_COUNTS: [usize; 12] = [
+    1, 2, 5, 100, 4094, 4095, 4096, 4097, 30_000, 65_534, 65_535, 65_536,
+];
+
+/// `count` ascending places of one block, as ids.
+pub fn block_ids(random: &mut Random, number: u32, count: usize) -> Vec<u32> {
+    // Selection sampling: each place is taken with the chance that fills the count.
+    let mut wanted = count;
+    let mut ids = Vec::with_capacity(count);
+    for place in 0..65_536_usize {
+        let left = 65_536 - place;
+        if wanted == left || (wanted > 0 && random.below(left) < wanted) {
+            ids.push((number << 16) | place as u32);
+            wanted -= 1;
+        }
+    }
+    ids
+}
+
+/// The ids of several blocks, given by number and count in ascending order.
+pub fn ids_of(random: &mut Random, blocks: &[(u32, usize)]) -> Vec<u32> {
+    blocks
+        .iter()
+        .flat_map(|&(number, count)| block_ids(random, number, count))
+        .collect()
+}
+
+/// A few ascending ids, near and far.
+pub fn few_ids(random: &mut Random, most: usize) -> Vec<u32> {
+    let span = random.pick(&[50, 5_000, 70_000, 200_000, 3_000_000]);
+    let mut ids: Vec<u32> = (0..random.below(most + 1))
+        .map(|_| random.below(span) as u32)
+        .collect();
+    ids.sort_unstable();
+    ids.dedup();
+    ids
+}
+
+/// Values whose stored numbers have about the given width.
+pub fn values_of_width(random: &mut Random, count: usize, width: u32) -> Vec<i64> {
+    let step = random.pick(&[1, 1, 2, 5, 1000]);
+    let low = random.pick(&[0, 0, 7, -9, 1 << 40, i64::MIN, i64::MAX]);
+    (0..count)
+        .map(|_| {
+            let stored = random.next().checked_shr(64 - width).unwrap_or(0);
+            low.wrapping_add_unsigned(stored.wrapping_mul(step)) / step as i64 * step as i64
+        })
+        .collect()
+}

@@ -1,0 +1,98 @@
+//! A column taken apart, to be put together again with one thing changed.
+
+/// The header's nine numbers in order.
+pub const EDITION: usize = 0;
+pub const COUNT: usize = 1;
+pub const POWER: usize = 2;
+pub const ID_BYTES: usize = 3;
+pub const JUMPS: usize = 4;
+pub const WIDTH: usize = 5;
+pub const LEAST: usize = 6;
+pub const STEP: usize = 7;
+pub const VALUE_BYTES: usize = 8;
+
+/// A column as its header numbers and its two sections.
+#[derive(Clone, Debug)]
+pub struct Parts {
+    pub numbers: [u64; 9],
+    pub ids: Vec<u8>,
+    pub values: Vec<u8>,
+}
+
+pub fn put_number(out: &mut Vec<u8>, mut number: u64) {
+    while number >= 128 {
+        out.push(number as u8 | 128);
+        number >>= 7;
+    }
+    out.push(number as u8);
+}
+
+impl Parts {
+    /// Takes a sound column apart.
+    pub fn of(bytes: &[u8]) -> Self {
+        let mut numbers = [0; 9];
+        let mut at = 0;
+        for number in &mut numbers {
+            let last = at + bytes[at..].iter().position(|&byte| byte < 128).unwrap();
+            for &byte in bytes[at..=last].iter().rev() {
+                *number = *number << 7 | u64::from(byte & 127);
+            }
+            at = last + 1;
+        }
+        let (ids, values) = bytes[at..].split_at(numbers[ID_BYTES] as usize);
+        Self {
+            numbers,
+            ids: ids.to_vec(),
+            values: values.to_vec(),
+        }
+    }
+
+    /// The bytes, with the header as it stands.
+    pub fn bytes(&self) -> Vec<u8> {
+        let mut out = Vec::new();
+        for number in self.numbers {
+            put_number(&mut out, number);
+        }
+        out.extend(&self.ids);
+        out.extend(&self.values);
+        out
+    }
+
+    /// The bytes, with the sections' lengths put right in the header.
+    pub fn bytes_with_lengths(&self) -> Vec<u8> {
+        let mut parts = self.clone();
+        parts.numbers[ID_BYTES] = self.ids.len() as u64;
+        parts.numbers[VALUE_BYTES] = self.values.len() as u64;
+        parts.bytes()
+    }
+
+    /// The start, the number and the count of each block of a sound column.
+    pub fn blocks(&self) -> Vec<(usize, u32, usize)> {
+        let short = |at: usize| u32::from(u16::from_le_bytes([self.ids[at], self.ids[at + 1]]));
+        let mut blocks = Vec::new();
+        let mut start = 0;
+        while short(start) != 32_767 {
+            let count = short(start + 2) as usize + 1;
+            blocks.push((start, short(start), count));
+            start += 4 + match count {
+                0..=4095 => 2 * count,
+                65_536 => 0,
+                _ => 8192 + self.rank_bytes(),
+            };
+        }
+        blocks
+    }
+
+    /// Bytes of a rank table.
+    pub fn rank_bytes(&self) -> usize {
+        match self.numbers[POWER] {
+            0 => 0,
+            power => 1 << (17 - power),
+        }
+    }
+
+    /// Where the jump entries start in the id section.
+    pub fn jumps_at(&self) -> usize {
+        self.ids.len() - 8 * self.numbers[JUMPS] as usize
+    }
+}

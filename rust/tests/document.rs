@@ -1,0 +1,245 @@
+//! Document 01's own cases: "Both sides of each line", by their bytes.
+
+mod common;
+
+use common::parts::Parts;
+use common::{same, Random};
+use signalfern::{Answer, Column, Refusal, MAX_COUNT, MAX_ID};
+
+fn bytes(hex: &str) -> Vec<u8> {
+    hex.split_whitespace()
+        .map(|byte| u8::from_str_radix(byte, 16).unwrap())
+        .collect()
+}
+
+fn list(ids: &[u32], values: &[i64], power: u32) -> Vec<u8> {
+    let column = same::write_exactly(ids, values, power);
+    assert_eq!(same::check(&column), Ok(ids.len() as u64));
+    let pairs = same::read(&column, ids.len(), ids.len());
+    assert_eq!(pairs, Ok((ids.to_vec(), values.to_vec())));
+    column
+}
+
+#[test]
+fn three_pairs() {
+    let column = list(&[0, 2, 7], &[150, 140, 135], 9);
+    let expected =
+        "01 03 09 10 00 02 8E 02 05 01 00 00 02 00 00 00 02 00 07 00 FF 7F 00 00 FF FF D0";
+    assert_eq!(column, bytes(expected));
+    assert_eq!(column.len(), 27);
+}
+
+#[test]
+fn no_pairs() {
+    let mut expected = bytes("01 00 09 0E 01 00 00 01 00 FF 7F 00 00 FF FF");
+    expected.extend([0; 8]);
+    assert_eq!(list(&[], &[], 9), expected);
+    for id in [0, 1, 65_536, MAX_ID] {
+        assert_eq!(
+            same::look_up(&expected, id),
+            Ok(Answer::Absent { words: 0 })
+        );
+    }
+}
+
+#[test]
+fn one_pair_in_block_one() {
+    let mut expected = bytes("01 01 00 24 03 00 01 01 00 01 00 00 00 00 00 FF 7F 00 00 FF FF");
+    expected.extend([0; 16]);
+    expected.extend(bytes("01 00 00 00 06 00 00 00"));
+    assert_eq!(list(&[65_536], &[-1], 0), expected);
+    assert_eq!(expected.len(), 45);
+}
+
+#[test]
+fn packed_numbers() {
+    let ids: Vec<u32> = (0..8).collect();
+    let column = list(&ids, &[1, 1, 1, 0, 2, 2, 0, 0], 9);
+    assert_eq!(Parts::of(&column).values, bytes("54 A0"));
+}
+
+#[test]
+fn divisor_and_width() {
+    for (values, step, bits) in [
+        (&[150, 140, 135][..], 5, 2),
+        (&[3, 4, 3000], 1, 12),
+        (&[3, 3000], 3, 10),
+        (&[i64::MIN, i64::MAX], 1, 64),
+        (&[i64::MIN, 0], 1 << 63, 1),
+        (&[i64::MIN, i64::MIN], 1, 0),
+        (&[6, 6, 6], 1, 0),
+        (&[0, 0], 1, 0),
+        (&[0, i64::MAX], i64::MAX as u64, 1),
+        (&[-6, 6], 6, 2),
+    ] {
+        let ids: Vec<u32> = (0..values.len() as u32).collect();
+        let column = Column::open(&list(&ids, values, 0)).unwrap();
+        assert_eq!((column.step, column.bits), (step, bits), "{values:?}");
+    }
+}
+
+#[test]
+fn smallest_possible_value() {
+    let column = list(&[5], &[i64::MIN], 9);
+    assert_eq!(column[6..16], bytes("FF FF FF FF FF FF FF FF FF 01"));
+}
+
+#[test]
+fn rank_entries() {
+    // Strides of 128 places that hold 5, 1 and 2 ids, then enough for a dense block.
+    let mut ids = vec![3, 40, 41, 90, 127, 200, 256, 383];
+    ids.extend(400..5000);
+    let values = vec![0; ids.len()];
+    let parts = Parts::of(&list(&ids, &values, 7));
+    assert_eq!(parts.ids[4..10], bytes("00 00 00 05 00 06"));
+}
+
+#[test]
+fn header_numbers() {
+    for (head, refusal) in [
+        ("", Refusal::Short),
+        ("80", Refusal::Short),
+        ("80 00", Refusal::Number),
+        ("81 80 80 80 80 80 80 80 80", Refusal::Short),
+        ("81 80 80 80 80 80 80 80 80 00", Refusal::Number),
+        ("81 80 80 80 80 80 80 80 80 01", Refusal::Edition),
+        ("81 80 80 80 80 80 80 80 80 02", Refusal::Number),
+        ("81 80 80 80 80 80 80 80 80 80", Refusal::Number),
+        ("81 80 80 80 80 80 80 80 80 81 00", Refusal::Number),
+        ("00", Refusal::Edition),
+        ("02", Refusal::Edition),
+        ("01", Refusal::Short),
+        // A rank power that is not allowed, and the last number is cut off.
+        ("01 00 06 0E 01 00 00 01", Refusal::Short),
+        ("01 00 06 0E 01 00 00 01 80 00", Refusal::Number),
+        ("01 00 06 0E 01 00 00 01 00", Refusal::Header),
+        ("01 00 09 0E 01 00 00 01 00", Refusal::Length),
+    ] {
+        let bytes = bytes(head);
+        assert_eq!(same::check(&bytes), Err(refusal), "{head}");
+        assert_eq!(same::read(&bytes, 3, 2).unwrap_err(), refusal, "{head}");
+        assert_eq!(same::open(&bytes), Err(refusal), "{head}");
+        assert_eq!(same::look_up(&bytes, 0), Err(refusal), "{head}");
+        let above = same::look_up(&bytes, MAX_ID + 1);
+        assert_eq!(above, Err(Refusal::Id), "{head}");
+    }
+}
+
+#[test]
+fn order_and_range() {
+    let order = |index| Err(Refusal::Order { index });
+    let range = |index| Err(Refusal::Range { index });
+    assert_eq!(same::write(&[4, 4], &[1, 2], 9, 100), order(1));
+    assert_eq!(same::write(&[4, 5, 3, 2], &[0; 4], 9, 100), order(2));
+    assert_eq!(same::write(&[MAX_ID + 1], &[1], 9, 100), range(0));
+    let far = [7, MAX_ID, MAX_ID + 1, u32::MAX];
+    assert_eq!(same::write(&far, &[0; 4], 9, 100), range(2));
+    // The whole list is tested for its order before any id for its range.
+    let both = [MAX_ID + 1, 5];
+    assert_eq!(same::write(&both, &[0; 2], 9, 100), order(1));
+    assert_eq!(same::write(&both, &[0; 2], 6, 100), Err(Refusal::Power));
+    assert_eq!(same::write(&both, &[0; 3], 6, 100), Err(Refusal::Lengths));
+
+    let last = list(&[MAX_ID], &[12], 9);
+    let column = Column::open(&last).unwrap();
+    assert_eq!(column.jump_count, 32_767);
+    assert_eq!(
+        same::look_up(&last, MAX_ID).map(Answer::value),
+        Ok(Some(12))
+    );
+    assert_eq!(
+        same::look_up(&last, MAX_ID - 1),
+        Ok(Answer::Absent { words: 0 })
+    );
+}
+
+#[test]
+fn the_block_after_the_last() {
+    // Block 32766 would need one jump entry more than there may be.
+    let mut parts = Parts::of(&list(&[MAX_ID], &[12], 9));
+    parts.ids[0] = 0xFE;
+    assert_eq!(parts.ids[..2], [0xFE, 0x7F]);
+    assert_eq!(same::check(&parts.bytes()), Err(Refusal::Damaged));
+    let last = parts.ids.len() - 8;
+    parts.ids.extend_from_within(last..);
+    parts.ids.copy_within(last - 8..last, last);
+    parts.numbers[common::parts::JUMPS] += 1;
+    assert_eq!(
+        same::check(&parts.bytes_with_lengths()),
+        Err(Refusal::Header)
+    );
+}
+
+#[test]
+fn block_sizes() {
+    let mut random = Random::new(1);
+    for (count, power, size) in [
+        (4095, 9, 8194),
+        (4096, 9, 8452),
+        (4096, 0, 8196),
+        (4096, 7, 9220),
+        (65_535, 15, 8200),
+        (65_536, 9, 4),
+    ] {
+        let ids = common::block_ids(&mut random, 0, count);
+        let column = Column::open(&list(&ids, &vec![3; count], power)).unwrap();
+        assert_eq!(column.id_bytes, size + 6, "{count} ids at power {power}");
+        assert_eq!(column.jump_count, 0);
+    }
+}
+
+#[test]
+fn powers() {
+    for power in (0..40).chain([255, 256 + 9, u32::MAX]) {
+        let result = same::write(&[1], &[1], power, 100);
+        let allowed = signalfern::power_allowed(power);
+        assert_eq!(
+            result.err(),
+            (!allowed).then_some(Refusal::Power),
+            "{power}"
+        );
+    }
+}
+
+/// Every id that there is, with one value: some 393 KB.
+fn column_of_all_ids() -> Vec<u8> {
+    let mut ids = Vec::new();
+    for number in 0..32_766_u16 {
+        ids.extend(number.to_le_bytes());
+        ids.extend([0xFF, 0xFF]);
+    }
+    ids.extend([0xFF, 0x7F, 0, 0, 0xFF, 0xFF]);
+    for number in 0..=32_766_u32 {
+        ids.extend((number << 16).to_le_bytes());
+        ids.extend((4 * number).to_le_bytes());
+    }
+    let length = ids.len() as u64;
+    let parts = Parts {
+        numbers: [1, MAX_COUNT, 9, length, 32_767, 0, 84, 1, 0],
+        ids,
+        values: Vec::new(),
+    };
+    parts.bytes()
+}
+
+#[test]
+fn a_column_of_all_ids() {
+    let column = column_of_all_ids();
+    assert_eq!(same::check(&column), Ok(MAX_COUNT));
+    let needed = MAX_COUNT as usize;
+    assert_eq!(same::read(&column, 10, 10), Err(Refusal::Buffer { needed }));
+    for id in [0, 1, 65_535, 65_536, 1 << 30, MAX_ID - 1, MAX_ID] {
+        let found = Answer::Found {
+            ordinal: u64::from(id),
+            value: 42,
+            words: 0,
+        };
+        assert_eq!(same::look_up(&column, id), Ok(found));
+    }
+    // One pair too many, by the limits and by the header.
+    let mut parts = Parts::of(&column);
+    parts.numbers[common::parts::COUNT] += 1;
+    assert_eq!(same::check(&parts.bytes()), Err(Refusal::Header));
+    parts.numbers[common::parts::COUNT] -= 2;
+    assert_eq!(same::check(&parts.bytes()), Err(Refusal::Damaged));
+}
