@@ -4,10 +4,9 @@ ghost use Prim.Native.Nat.{_≤_};
 ghost use lib.Dec.{leb};
 ghost use lib.ListN.{length};
 ghost use lib.Seq.{sets};
-ghost use Rattle.format.specs.Limits.{maxId, maxCount, maxWidth, powerOk};
+ghost use Rattle.format.specs.Limits.{maxId, powerOk};
 ghost use Rattle.format.specs.Bytes.{bytesOf};
 ghost use Rattle.format.specs.HeaderNumbers.{number};
-ghost use Rattle.format.specs.Bits.{packedBytes};
 ghost use Rattle.format.specs.Column.{headNumbers};
 ghost use Rattle.format.specs.Opening.{numbersAt, headOk, lengthOk, openColumn};
 ghost use Rattle.column.specs.Opened.{columnOf, openedOf, refusalOf, numbersOf, judgedAs};
@@ -141,14 +140,6 @@ fn read_numbers(out: &mut [u64; 8], bytes: &[u8], at: usize) -> Numbers
     Numbers::End(i)
 }
 
-// V for so many values of so many bits.
-pub fn packed_bytes(count: u64, bits: u64) -> u64
-    requires { ⌜ (count ≤ maxCount) × (bits ≤ maxWidth) ⌝ }
-    ensures { λ r. ⌜ r ≡ packedBytes count bits ⌝ }
-{
-    (count * bits + 7) / 8
-}
-
 // Whether the header keeps the header rules.
 pub fn head_ok(c: Column) -> bool
     ensures { λ r. ⌜ r ≡ headOk (columnOf c .head) ⌝ }
@@ -171,7 +162,7 @@ pub fn head_ok(c: Column) -> bool
     if c.id_bytes < 6 + 8 * c.jump_count {
         return false;
     }
-    c.value_bytes == packed_bytes(c.count, c.bits)
+    c.value_bytes == packing::packed_bytes(c.count, c.bits)
 }
 
 // Whether header + L + V is the byte count; no sum is made, so none wraps.

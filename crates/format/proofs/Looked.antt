@@ -168,23 +168,24 @@ module _ (p : ℕ) (ids : List ℕ) (vs : List ℤ) (ok : Valid p ids vs) (id : 
 
   -- ---- by the list alone
 
+  parts : id / 65536 * 65536 + id % 65536 ≡ id
+  parts = div-add-mod' id 65536
+
+  -- the listed ids below, and whether the id is listed, by the id's block
+  pub the-count : countBelow id ids ≡ idsUnder (id / 65536) (runs ids) + countBelow (id % 65536) (placesOf (id / 65536) (runs ids))
+  the-count =
+      ap₂ countBelow (sym parts) (sym (ids-runs ids))
+      ∙ count-runs (id / 65536) (id % 65536) 0 (runs ids) (omega arith) (blocks-asc p ids vs ok) (blocks-fine p ids vs ok)
+
+  pub the-test : listed id ids ≡ listed (id % 65536) (placesOf (id / 65536) (runs ids))
+  the-test =
+      ap₂ listed (sym parts) (sym (ids-runs ids))
+      ∙ listed-runs (id / 65536) (id % 65536) 0 (runs ids) (omega arith) (blocks-asc p ids vs ok) (blocks-fine p ids vs ok)
+
   pub by-list : the-answer
       ≡ cond (listed id ids) (found (countBelow id ids) (getD vs (countBelow id ids) (pos 0)) (words p ids id)) (absent (words p ids id))
   unfolding by-block answered wordsIn words
   by-list = rw (← the-count, ← the-test, ← the-block)
     where
-      parts : id / 65536 * 65536 + id % 65536 ≡ id
-      parts = div-add-mod' id 65536
-
-      the-count : countBelow id ids ≡ idsUnder (id / 65536) (runs ids) + countBelow (id % 65536) (placesOf (id / 65536) (runs ids))
-      the-count =
-          ap₂ countBelow (sym parts) (sym (ids-runs ids))
-          ∙ count-runs (id / 65536) (id % 65536) 0 (runs ids) (omega arith) (blocks-asc p ids vs ok) (blocks-fine p ids vs ok)
-
-      the-test : listed id ids ≡ listed (id % 65536) (placesOf (id / 65536) (runs ids))
-      the-test =
-          ap₂ listed (sym parts) (sym (ids-runs ids))
-          ∙ listed-runs (id / 65536) (id % 65536) 0 (runs ids) (omega arith) (blocks-asc p ids vs ok) (blocks-fine p ids vs ok)
-
       the-block : inBlock (id / 65536) ids ≡ length (placesOf (id / 65536) (runs ids))
       the-block = ap (inBlock (id / 65536)) (sym (ids-runs ids)) ∙ in-runs (id / 65536) 0 (runs ids) (blocks-asc p ids vs ok) (blocks-fine p ids vs ok)

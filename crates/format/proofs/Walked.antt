@@ -1,10 +1,10 @@
 -- The walk over a column's blocks answers as the pair list does, and so as the look-up. Assumes nothing.
-use mathlib.Core.Path.{_≡_, refl, sym, ap, ap₂, _∙_}
+use mathlib.Core.Path.{_≡_, refl, sym, ap, _∙_}
 use mathlib.Core.Bool.{Bool, true, false, cond}
 use mathlib.Core.List.{List, [], _∷_, _++_, append-assoc}
 use mathlib.Core.Option.{none, some}
-use Prim.Native.Nat.{ℕ, zero, suc, _+_, _*_, _/_, _%_, _<_, _≤_}
-use native.Mathlib.Nat.{zero-add, add-zero, add-assoc, div-add-mod'}
+use Prim.Native.Nat.{ℕ, zero, suc, _+_, _/_, _%_, _<_, _≤_}
+use native.Mathlib.Nat.{zero-add, add-zero, add-assoc}
 use native.Mathlib.Omega.{arith}
 use lib.Dec.{eqb}
 use lib.IntN.{ℤ, pos}
@@ -22,13 +22,12 @@ use Rattle.format.specs.Walk.{listed, words, indexOf, seenOr, walkFrom, 
 use Rattle.format.proofs.Cases.{below-or, equal-or}
 use Rattle.format.proofs.Section.{length-blockOf}
 use Rattle.format.proofs.Blocks.{Fine, AllFine, places-back}
-use Rattle.format.proofs.Runs.{ids-runs}
 use Rattle.format.proofs.Jumps.{AscBlocks, idsUnder, none-under}
-use Rattle.format.proofs.Find.{placesOf, no-places, count-runs, listed-runs, count-lt}
+use Rattle.format.proofs.Find.{placesOf, no-places, count-lt}
 use Rattle.format.proofs.Place.{listed-higher, count-higher}
 use Rattle.format.proofs.Skip.{number-read, count-read, data-read, end-read}
 use Rattle.format.proofs.RoundTrip.{h, the-column, ids-part, blocks-asc, blocks-fine, section-is, power-le, runs-le}
-use Rattle.format.proofs.Looked.{value-is, by-list, looked}
+use Rattle.format.proofs.Looked.{value-is, the-count, the-test, by-list, looked}
 
 index-is : (r i a : ℕ) (rs : List ℕ) → Asc a rs → indexOf r i rs ≡ cond (listed r rs) (some (i + countBelow r rs)) none
 unfolding indexOf listed countBelow
@@ -127,23 +126,10 @@ module _ (p : ℕ) (ids : List ℕ) (vs : List ℤ) (ok : Valid p ids vs) (id : 
       walk-runs (column p ids vs) (the-column p ids vs ok) id (idSection p ids) (bytesOf entryBytes (jumps p ids)) (ids-part p ids vs ok) power16
       (suc (length (idSection p ids))) 0 0 0 (runs ids) (blocks-asc p ids vs ok) (blocks-fine p ids vs ok)
       (omega (arith, runs-le p (runs ids), section-is p ids vs ok)) refl
-      ∙ rw (zero-add, ← the-count, ← the-test) (go (listed id ids) refl)
+      ∙ rw (zero-add, ← the-count p ids vs ok id hid, ← the-test p ids vs ok id hid) (go (listed id ids) refl)
     where
       power16 : p ≤ 16
       power16 = omega (arith, power-le p (ok .power))
-
-      parts : id / 65536 * 65536 + id % 65536 ≡ id
-      parts = div-add-mod' id 65536
-
-      the-count : countBelow id ids ≡ idsUnder (id / 65536) (runs ids) + countBelow (id % 65536) (placesOf (id / 65536) (runs ids))
-      the-count =
-          ap₂ countBelow (sym parts) (sym (ids-runs ids))
-          ∙ count-runs (id / 65536) (id % 65536) 0 (runs ids) (omega arith) (blocks-asc p ids vs ok) (blocks-fine p ids vs ok)
-
-      the-test : listed id ids ≡ listed (id % 65536) (placesOf (id / 65536) (runs ids))
-      the-test =
-          ap₂ listed (sym parts) (sym (ids-runs ids))
-          ∙ listed-runs (id / 65536) (id % 65536) 0 (runs ids) (omega arith) (blocks-asc p ids vs ok) (blocks-fine p ids vs ok)
 
       go : (q : Bool) → listed id ids ≡ q
           → cond (listed id ids) (seen (countBelow id ids) (valueOf (column p ids vs) (the-column p ids vs ok) (countBelow id ids))) unseen

@@ -7,23 +7,8 @@ use native.Mathlib.Omega.{arith}
 use lib.Count.{trailingZeros}
 use Rattle.format.specs.Bytes.{countFrom}
 use Rattle.format.specs.IdsRead.{setBits}
-use Rattle.format.proofs.Cases.{equal-or}
+use Rattle.judge.proofs.Parts.{set-one, set-none, set-end, odd-or}
 use Rattle.id_reader.specs.Placed.{idsFrom}
-
-pub set-end : (x m : ℕ) → setBits zero x m ≡ []
-unfolding setBits
-set-end x m = refl
-
-set-one : (k x m : ℕ) → m % 2 ≡ 1 → setBits (suc k) x m ≡ x ∷ setBits k (suc x) (m / 2)
-unfolding setBits
-set-one k x m e = rw e
-
-set-none : (k x m : ℕ) → m % 2 ≡ 0 → setBits (suc k) x m ≡ setBits k (suc x) (m / 2)
-unfolding setBits
-set-none k x m e = rw e
-
-odd-or : {X : Type 0} (m : ℕ) → (m % 2 ≡ 1 → X) → (m % 2 ≡ 0 → X) → X
-odd-or m f g = equal-or (m % 2) 1 f (λ h. g (omega arith))
 
 -- ---- in two parts
 

@@ -48,7 +48,7 @@ six-long : (rest : List ℕ) → 6 ≤ length (endBlock ++ rest)
 unfolding endBlock
 six-long rest = omega arith
 
-the-end : (rest : List ℕ) → fromLow (take 2 (endBlock ++ rest)) ≡ 32767
+pub the-end : (rest : List ℕ) → fromLow (take 2 (endBlock ++ rest)) ≡ 32767
 unfolding endBlock fromDigits
 the-end rest = refl
 

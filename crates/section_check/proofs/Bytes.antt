@@ -1,12 +1,12 @@
 -- Bytes compared as numbers. Assumes nothing.
 use mathlib.Core.Path.{_≡_, refl, sym, ap, ap₂, _∙_}
 use mathlib.Core.Bool.{Bool, true, false}
-use mathlib.Core.List.{List, [], _∷_}
+use mathlib.Core.List.{List}
 use Prim.Native.Nat.{ℕ, zero, suc, _+_, _-_, _*_, _/_, _^_, _<_, _≤_}
 use native.Mathlib.Nat.{mod-eq-of-lt}
 use native.Mathlib.Omega.{arith}
 use lib.Dec.{eqb, lit<}
-use lib.ListN.{length, take, drop, getD, length-drop, length-take}
+use lib.ListN.{length, take, drop, length-drop, length-take}
 use lib.Seq.{length-take-le}
 use borrow.Author.Tests.{eq-eqb, ne-eqb}
 use Rattle.format.specs.Bytes.{digits, fromDigits, low, fromLow, same, lowAt}
@@ -18,10 +18,6 @@ use Rattle.format.proofs.RoundTrip.{same-refl}
 use Rattle.format.proofs.Unique.{same-eq}
 use Rattle.judge.proofs.Parts.{below-take, below-drop}
 use Rattle.numbers.proofs.Shorts.{low-add}
-
-pub below-all : (b : ℕ) (s : List ℕ) → ((i : ℕ) → getD s i 0 < b) → Below b s
-below-all b [] h = tt
-below-all b (x ∷ s) h = (h 0, below-all b s (λ i. h (suc i)))
 
 differ : (l m : List ℕ) → (l ≡ m → ⊥) → same l m ≡ false
 differ l m h = go (same l m) refl

@@ -6,7 +6,7 @@ use native.Mathlib.Omega.{arith}
 use borrow.Author.Tests.{not-true, not-false}
 use Rattle.format.specs.Opening.{Opened}
 use Rattle.format.specs.Check.{pairsIn, isColumn}
-use Rattle.section_check.proofs.Bytes.{below-all}
+use Rattle.format.proofs.Digits.{below-all}
 use Rattle.checking.specs.Tests.{columnOk}
 use Rattle.checking.proofs.Taken.{column-ok}
 use Rattle.checking.proofs.Steps.{values-long, ids-fail, ids-pass}

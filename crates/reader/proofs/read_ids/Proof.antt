@@ -9,7 +9,7 @@ use Rattle.format.specs.Opening.{idPart}
 use Rattle.column.specs.Facts.{Sound}
 use Rattle.column.specs.Opened.{columnOf}
 use Rattle.column.proofs.Facts.{sound}
-use Rattle.id_reader.proofs.Words.{below-all}
+use Rattle.format.proofs.Digits.{below-all}
 use Rattle.reader.proofs.Decoded.{id-slice, ids-asked, ids-given}
 use Rattle.reader.proofs.read_ids.Statement.{statement}
 use Rattle.reader.proofs.read_ids.Tie as tie

@@ -5,7 +5,7 @@ use borrow.Author.Needs.{needs}
 use borrow.Author.Tests.{not-true, not-false}
 use lib.ListN.{length}
 use Rattle.column.specs.Opened.{columnOf}
-use Rattle.id_reader.proofs.Words.{below-all}
+use Rattle.format.proofs.Digits.{below-all}
 use Rattle.reader.specs.Answered.{Whole}
 use Rattle.reader.proofs.Decoded.{decoded}
 use Rattle.reader.proofs.Answers.{refused-so, damaged, whole, done-so, few-ids, few-values, enough, answered-as}

@@ -9,7 +9,7 @@ use Rattle.format.specs.Opening.{valuePart}
 use Rattle.column.specs.Facts.{Sound}
 use Rattle.column.specs.Opened.{columnOf}
 use Rattle.column.proofs.Facts.{sound}
-use Rattle.id_reader.proofs.Words.{below-all}
+use Rattle.format.proofs.Digits.{below-all}
 use Rattle.reader.proofs.Decoded.{value-slice, values-asked, values-given}
 use Rattle.reader.proofs.read_values.Statement.{statement}
 use Rattle.reader.proofs.read_values.Tie as tie

@@ -4,7 +4,7 @@ use Prim.Native.Nat.{_-_}
 use native.Mathlib.Omega.{arith}
 use borrow.Author.Needs.{needs}
 use Rattle.section_check.proofs.Turns.{end-cut, end-bad, end-good}
-use Rattle.section_check.proofs.Bytes.{below-all}
+use Rattle.format.proofs.Digits.{below-all}
 use Rattle.section_check.proofs.end_reason.Statement.{statement}
 use Rattle.section_check.proofs.end_reason.Tie as tie
 

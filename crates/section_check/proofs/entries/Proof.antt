@@ -5,7 +5,7 @@ use native.Mathlib.Omega.{arith}
 use lib.ListN.{length, drop, take}
 use borrow.Author.Needs.{needs}
 use Rattle.section_check.proofs.Trail.{Trail, trail-here, trail-begin, trail-as, repeats-moved, last-right, last-wrong, end-fits}
-use Rattle.section_check.proofs.Bytes.{below-all}
+use Rattle.format.proofs.Digits.{below-all}
 use Rattle.section_check.specs.Reasons.{endedAt}
 use Rattle.section_check.proofs.Turns.{block-total}
 use Rattle.format.specs.Bytes.{lowAt, same}

@@ -4,7 +4,8 @@ use Prim.Native.Nat.{_-_}
 use native.Mathlib.Omega.{arith}
 use borrow.Author.Needs.{needs}
 use Rattle.section_check.proofs.Turns.{entry-bad, entry-good}
-use Rattle.section_check.proofs.Bytes.{below-all, entry-short}
+use Rattle.format.proofs.Digits.{below-all}
+use Rattle.section_check.proofs.Bytes.{entry-short}
 use Rattle.section_check.proofs.entry_is.Statement.{statement}
 use Rattle.section_check.proofs.entry_is.Tie as tie
 

@@ -5,7 +5,7 @@ use native.Mathlib.Omega.{arith}
 use borrow.Author.Needs.{needs}
 use Rattle.section_check.proofs.Trail.{end-fits, end-most, jumps-long}
 use Rattle.section_check.proofs.Left.{two-count, two-over, two-right, more-count, more-wrong, more-over, more-right}
-use Rattle.section_check.proofs.Bytes.{below-all}
+use Rattle.format.proofs.Digits.{below-all}
 use Rattle.section_check.specs.Reasons.{endedAt, placedOf}
 use Rattle.section_check.proofs.rest.Statement.{statement}
 use Rattle.section_check.proofs.rest.Tie as tie
