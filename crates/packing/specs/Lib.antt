@@ -1,2 +1,3 @@
 -- What writing one number after others does.
 pub mod Appended
+pub mod Stream

@@ -6,6 +6,14 @@ ghost use lib.ListN.{length, drop};
 ghost use Rattle.format.specs.Limits.{maxCount, maxWidth};
 ghost use Rattle.format.specs.Bits.{bitAt, gather, fetched, packed, bitBytes, packedBytes};
 ghost use Rattle.packing.specs.Appended.{Appended};
+ghost use Rattle.packing.specs.Stream.{Stored, Pushed, Finished};
+
+// Numbers that are written one after the other: at bytes are full, and have bits wait, as the number acc.
+pub struct Pending {
+    pub at: usize,
+    pub have: usize,
+    pub acc: u64,
+}
 
 fn least(a: usize, b: usize) -> usize
     ensures { λ r. ⌜ r ≡ min a b ⌝ }
@@ -77,12 +85,54 @@ fn read(s: &[u8], b: usize, skip: usize, w: usize) -> u64
     acc
 }
 
-// The i-th number of w bits in s.
+// Two bytes of s from byte b on, as one number.
+fn two_at(s: &[u8], b: usize) -> u64
+    requires { ⌜ b + 2 ≤ length (now s) ⌝ }
+    ensures { λ r. ⌜ r ≡ gather (bitAt (now (s .entry))) (b * 8) 16 ⌝ }
+{
+    joined(wide(s[b]), 8, wide(s[b + 1]))
+}
+
+// Four.
+fn four_at(s: &[u8], b: usize) -> u64
+    requires { ⌜ b + 4 ≤ length (now s) ⌝ }
+    ensures { λ r. ⌜ r ≡ gather (bitAt (now (s .entry))) (b * 8) 32 ⌝ }
+{
+    joined(two_at(s, b), 16, two_at(s, b + 2))
+}
+
+// Eight.
+fn eight_at(s: &[u8], b: usize) -> u64
+    requires { ⌜ b + 8 ≤ length (now s) ⌝ }
+    ensures { λ r. ⌜ r ≡ gather (bitAt (now (s .entry))) (b * 8) 64 ⌝ }
+{
+    joined(four_at(s, b), 32, four_at(s, b + 4))
+}
+
+// The w bits of x after its first skip ones.
+fn middle(x: u64, skip: usize, w: usize) -> u64
+    requires { ⌜ (skip < 8) × (0 < w) × (skip + w ≤ 64) ⌝ }
+    ensures { λ r. ⌜ r ≡ x / 2 ^ (64 - skip - w) % 2 ^ w ⌝ }
+{
+    (x << skip) >> (64 - w)
+}
+
+// The i-th number of w bits in s: from eight bytes at once if they hold it whole, else byte by byte.
 pub fn fetch(s: &[u8], w: usize, i: usize) -> u64
     requires { ⌜ (w ≤ 64) × (i * w + w ≤ 8 * length (now s)) ⌝ }
     ensures { λ r. ⌜ r ≡ fetched (now (s .entry)) w i ⌝ }
 {
-    read(s, byte_of(i, w), skip_of(i, w), w)
+    let b = byte_of(i, w);
+    let skip = skip_of(i, w);
+    if w == 0 {
+        return 0;
+    }
+    if skip + w <= 64 {
+        if 8 <= s.len() - b {
+            return middle(eight_at(s, b), skip, w);
+        }
+    }
+    read(s, b, skip, w)
 }
 
 // The byte old with its first skip bits kept, then the n bits of part, then zeros.
@@ -130,4 +180,67 @@ pub fn pack(xs: &[u64], w: usize, dst: &mut [u8])
         put(dst, w, i, xs[i]);
         i += 1;
     }
+}
+
+// The byte of v above its k low bits.
+fn byte_above(v: u64, k: usize) -> u8
+    requires { ⌜ k < 64 ⌝ }
+    ensures { λ r. ⌜ r ≡ v / 2 ^ k % 2 ^ 8 ⌝ }
+{
+    field(v, k, 8) as u8
+}
+
+// The have bits of acc, then the bits of next up to 64.
+fn filled(acc: u64, have: usize, next: u64) -> u64
+    requires { ⌜ (have < 64) × (acc < 2 ^ have) × (next < 2 ^ (64 - have)) ⌝ }
+    ensures { λ r. ⌜ r ≡ acc * 2 ^ (64 - have) + next ⌝ }
+{
+    ((acc << (63 - have)) << 1) | next
+}
+
+// Writes the first n bytes of v, the highest first.
+fn store(dst: &mut [u8], at: usize, n: usize, v: u64)
+    requires { ⌜ (n ≤ 8) × (at + n ≤ length (now dst)) ⌝ }
+    ensures { λ _. ⌜ Stored at n v (now (dst .entry)) (now (dst .exit)) ⌝ }
+{
+    let mut j = 0;
+    while j < n {
+        dst[at + j] = byte_above(v, 56 - j * 8);
+        j += 1;
+    }
+}
+
+// The number x of w bits after those written before. Eight bytes are written at once, when there are as many.
+pub fn push(dst: &mut [u8], p: Pending, w: usize, x: u64) -> Pending
+    requires { ⌜ (w ≤ 64) × (x < 2 ^ w) × (p .have < 64) × (p .acc < 2 ^ p .have) × (p .at * 8 + p .have + w ≤ 8 * length (now dst)) ⌝ }
+    ensures { λ r. ⌜ Pushed w x p r (now (dst .entry)) (now (dst .exit)) ⌝ }
+{
+    let at = p.at;
+    let have = p.have;
+    let acc = p.acc;
+    let end = have + w;
+    if end < 64 {
+        return Pending {
+            at,
+            have: end,
+            acc: joined(acc, w, x),
+        };
+    }
+    let left = end - 64;
+    store(dst, at, 8, filled(acc, have, x >> left));
+    Pending {
+        at: at + 8,
+        have: left,
+        acc: field(x, 0, left),
+    }
+}
+
+// Writes the bits that still wait; the spare bits of the last byte are 0.
+pub fn finish(dst: &mut [u8], p: Pending)
+    requires { ⌜ (p .have < 64) × (p .acc < 2 ^ p .have) × (p .at * 8 + p .have ≤ 8 * length (now dst)) ⌝ }
+    ensures { λ _. ⌜ Finished p (now (dst .entry)) (now (dst .exit)) ⌝ }
+{
+    let at = p.at;
+    let have = p.have;
+    store(dst, at, (have + 7) >> 3, filled(p.acc, have, 0));
 }

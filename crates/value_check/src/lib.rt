@@ -1,7 +1,7 @@
 // The check of a value section (document 01, "Value section"), under a header that keeps its rules.
 ghost use mathlib.Core.Path.{_≡_};
 ghost use mathlib.Core.Bool.{_&&_};
-ghost use Prim.Native.Nat.{_-_, _^_, _<_, min, max};
+ghost use Prim.Native.Nat.{_-_, _^_, _<_};
 ghost use lib.Dec.{eqb, leb};
 ghost use lib.IntN.{natAbs};
 ghost use lib.ListN.{length};
@@ -13,18 +13,6 @@ ghost use Rattle.column.specs.Facts.{HeadFacts};
 ghost use Rattle.value_check.specs.ValuesOk.{spareOk, numbersOk, equalOk, spreadOk, valuesOk};
 use column::Column;
 use values::Fetched;
-
-fn smaller(a: u64, b: u64) -> u64
-    ensures { λ r. ⌜ r ≡ min a b ⌝ }
-{
-    if a < b { a } else { b }
-}
-
-fn larger(a: u64, b: u64) -> u64
-    ensures { λ r. ⌜ r ≡ max a b ⌝ }
-{
-    if a < b { b } else { a }
-}
 
 // The greatest common divisor; once it is 1 it stays so.
 fn common(x: u64, d: u64) -> u64
@@ -106,8 +94,8 @@ fn numbers_ok(s: &[u8], c: Column, d: u64) -> bool
     let mut i: usize = 0;
     while i < n {
         let x = packing::fetch(s, w, i);
-        lo = smaller(lo, x);
-        hi = larger(hi, x);
+        lo = values::smaller(lo, x);
+        hi = values::larger(hi, x);
         g = common(x, g);
         i += 1;
         let over = settled(sure, lo, hi, g, top);

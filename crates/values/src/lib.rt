@@ -2,7 +2,7 @@
 // fetched from it. Values are worked on in their biased form, so that no sum or difference has a sign.
 ghost use mathlib.Core.Path.{_≡_};
 ghost use mathlib.Core.List.{_++_};
-ghost use Prim.Native.Nat.{_+_, _-_, _*_, _≤_, _<_, min, max};
+ghost use Prim.Native.Nat.{_+_, _-_, _*_, _/_, _≤_, _<_, min, max};
 ghost use lib.ListN.{length, drop};
 ghost use Rattle.format.specs.HeaderNumbers.{unzigzag};
 ghost use Rattle.format.specs.Bits.{packedBytes, fetched};
@@ -30,13 +30,13 @@ pub enum Fetched {
     Outside,
 }
 
-fn smaller(a: u64, b: u64) -> u64
+pub fn smaller(a: u64, b: u64) -> u64
     ensures { λ r. ⌜ r ≡ min a b ⌝ }
 {
     if a < b { a } else { b }
 }
 
-fn larger(a: u64, b: u64) -> u64
+pub fn larger(a: u64, b: u64) -> u64
     ensures { λ r. ⌜ r ≡ max a b ⌝ }
 {
     if a < b { b } else { a }
@@ -137,6 +137,14 @@ pub fn summary_of(values: &[i64]) -> Summary
     }
 }
 
+// d / step. Most columns have divisor 1, and a division is slow.
+fn quotient(d: u64, step: u64) -> u64
+    requires { ⌜ 0 < step ⌝ }
+    ensures { λ r. ⌜ r ≡ d / step ⌝ }
+{
+    if step == 1 { d } else { d / step }
+}
+
 // Writes the value section to the front of out, the part of the output that starts where the section starts.
 pub fn put_values(out: &mut [u8], values: &[i64], sum: Summary)
     requires { ⌜ Summed (now values) sum × (packedBytes (length (now values)) (sum .bits) ≤ length (now out)) ⌝ }
@@ -145,12 +153,18 @@ pub fn put_values(out: &mut [u8], values: &[i64], sum: Summary)
     let low = sum.low;
     let step = sum.step;
     let w = sum.bits as usize;
+    let mut p = packing::Pending {
+        at: 0,
+        have: 0,
+        acc: 0,
+    };
     let mut i = 0;
     while i < values.len() {
-        let x = (signed::biased(values[i]) - low) / step;
-        packing::put(out, w, i, x);
+        let x = quotient(signed::biased(values[i]) - low, step);
+        p = packing::push(out, p, w, x);
         i += 1;
     }
+    packing::finish(out, p);
 }
 
 // Document 01, the look-up's step 7: smallest + g times the stored number, which must fit in 64 bits. `least` is the header
