@@ -1,0 +1,3 @@
+// The look-up's cases.
+pub mod looking;
+pub mod steps;

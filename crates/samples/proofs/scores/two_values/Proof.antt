@@ -1,0 +1,56 @@
+-- `samples::scores::two_values` is safe and ends.
+use Prim.Native.Nat.{_-_}
+use borrow.Author.Needs.{needs}
+use lib.ListN.{length}
+use mathlib.Core.Path.{_≡_}
+use Rattle.samples.proofs.scores.two_values.Statement.{statement}
+use Rattle.samples.proofs.scores.two_values.Tie as tie
+
+abbrev Inv-loop : tie.InvT-loop
+Inv-loop case n values₀ i₀ values i = length values ≡ length values₀
+
+abbrev μ-loop : tie.MeasureT-loop
+μ-loop case n values₀ i₀ values i = n - i
+
+loop-holds : tie.Need-loop-holds Inv-loop μ-loop
+loop-holds c = search needs
+
+extreme-requires : tie.Need-extreme-requires Inv-loop μ-loop
+extreme-requires c κs = search needs
+
+extreme-requires-2 : tie.Need-extreme-requires-2 Inv-loop μ-loop
+extreme-requires-2 c κs = search needs
+
+put-value-requires : tie.Need-put-value-requires Inv-loop μ-loop
+put-value-requires c κs = search needs
+
+add-i : tie.Need-add-i Inv-loop μ-loop
+add-i c = search needs
+
+loop-less : tie.Need-loop-less Inv-loop μ-loop
+loop-less c = search needs
+
+loop-again : tie.Need-loop-again Inv-loop μ-loop
+loop-again c = search needs
+
+same-length : tie.Need-same-length Inv-loop μ-loop
+same-length c = search needs
+
+returns : tie.Need-returns Inv-loop μ-loop
+returns c = search needs
+
+pub two-values-spec : {M : Type 1} → statement M
+two-values-spec =
+    tie.close
+    (tie.spec
+    Inv-loop
+    μ-loop
+    loop-holds
+    extreme-requires
+    extreme-requires-2
+    put-value-requires
+    add-i
+    loop-less
+    loop-again
+    same-length
+    returns)

@@ -1,0 +1,54 @@
+-- `second::looking::scan` is safe and ends.
+use Prim.Native.Nat.{_-_}
+use borrow.Author.Needs.{needs}
+use Rattle.second.proofs.looking.scan.Statement.{statement}
+use Rattle.second.proofs.looking.scan.Tie as tie
+
+abbrev Inv-loop : tie.InvT-loop
+Inv-loop s head r i₀ i-end i = Unit {0}
+
+abbrev μ-loop : tie.MeasureT-loop
+μ-loop s head r i₀ i-end i = i-end - i
+
+loop-holds : tie.Need-loop-holds Inv-loop μ-loop
+loop-holds c = search needs
+
+size-requires : tie.Need-size-requires Inv-loop μ-loop
+size-requires c κs = search needs
+
+plus-requires : tie.Need-plus-requires Inv-loop μ-loop
+plus-requires c κs = search needs
+
+low-requires : tie.Need-low-requires Inv-loop μ-loop
+low-requires c κs = search needs
+
+returns : tie.Need-returns Inv-loop μ-loop
+returns c = search needs
+
+add-i : tie.Need-add-i Inv-loop μ-loop
+add-i c = search needs
+
+loop-less : tie.Need-loop-less Inv-loop μ-loop
+loop-less c = search needs
+
+loop-again : tie.Need-loop-again Inv-loop μ-loop
+loop-again c = search needs
+
+returns-2 : tie.Need-returns-2 Inv-loop μ-loop
+returns-2 c = search needs
+
+pub scan-spec : {M : Type 1} → statement M
+scan-spec =
+    tie.close
+    (tie.spec
+    Inv-loop
+    μ-loop
+    loop-holds
+    size-requires
+    plus-requires
+    low-requires
+    returns
+    add-i
+    loop-less
+    loop-again
+    returns-2)
