@@ -5,7 +5,6 @@ use mathlib.Core.Path.{_≡_, _∙_}
 use mathlib.Core.List.{List}
 use Prim.Native.Nat.{ℕ, _+_, _*_}
 use native.Mathlib.Omega.{arith}
-use Rattle.format.specs.Bits.{bitAt, gather}
 use Rattle.packing.proofs.Join.{byte-gather, join-is, join-low, join-fits}
 use Rattle.packing.proofs.two_at.Statement.{statement}
 use Rattle.packing.proofs.two_at.Tie as tie
