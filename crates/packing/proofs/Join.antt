@@ -3,12 +3,12 @@
 use mathlib.Core.Path.{_≡_, sym, ap, _∙_}
 use mathlib.Core.List.{List}
 use Prim.Native.Nat.{ℕ, _+_, _-_, _*_, _/_, _%_, _^_, _≤_, _<_}
-use native.Mathlib.Nat.{lt-of-lt-of-le}
+use native.Mathlib.Nat.{lt-of-lt-of-le, mod-lt, mul-le-mul-right, add-mul, suc-mul, one-mul}
 use native.Mathlib.Omega.{arith}
 use lib.ListN.{getD}
-use lib.Pow.{shl-lt, shr-shr, shl-shr, field, pow-mono}
+use lib.Pow.{shl-lt, shr-shr, shl-shr, field, pow-mono, pow-pos, mod-pow-add, low}
 use Rattle.format.specs.Bits.{bitOf, bitAt, gather}
-use Rattle.format.proofs.Bits.{gather-add, gather-lt, gather-whole, bitAt-lt}
+use Rattle.format.proofs.Bits.{gather-add, gather-lt, gather-whole, gather-part, bitAt-lt}
 
 -- one byte
 pub byte-gather : (s : List ℕ) (b : ℕ) → getD s b 0 < 256 → getD s b 0 ≡ gather (bitAt s) (b * 8) 8
@@ -35,3 +35,38 @@ middle-is x a w h =
     let t : k ≡ a + m = omega arith in
     ap (λ (j : ℕ). x * 2 ^ a % 2 ^ j / 2 ^ k) e ∙ field (x * 2 ^ a) w k
     ∙ ap (λ (y : ℕ). y % 2 ^ w) (ap (λ (j : ℕ). x * 2 ^ a / 2 ^ j) t ∙ sym (shr-shr (x * 2 ^ a) a m) ∙ ap (λ (y : ℕ). y / 2 ^ m) (shl-shr x a))
+
+-- what is left of 64 bits after the first k are shifted out: n of them, after the next a
+pub window-is : (s : List ℕ) (b k a n x : ℕ) → k < 8 → a + n ≤ 57 → x ≡ gather (bitAt s) (b * 8) 64
+    → x * 2 ^ k % 2 ^ 64 / 2 ^ (64 - a - n) % 2 ^ n ≡ gather (bitAt s) (b * 8 + k + a) n
+window-is s b k a n x hk h e =
+    let m : ℕ = 64 - k - (a + n) in
+    let t : 64 - a - n ≡ 64 - (a + n) = omega arith in
+    let q : x * 2 ^ k % 2 ^ 64 / 2 ^ (64 - (a + n)) ≡ x / 2 ^ m % 2 ^ (a + n) = middle-is x k (a + n) (omega arith) in
+    let r : x / 2 ^ m % 2 ^ (a + n) % 2 ^ n ≡ x / 2 ^ m % 2 ^ n = mod-low (x / 2 ^ m) a n in
+    let u : b * 8 + (k + a) ≡ b * 8 + k + a = omega arith in
+    ap (λ (j : ℕ). x * 2 ^ k % 2 ^ 64 / 2 ^ j % 2 ^ n) t ∙ ap (λ (y : ℕ). y % 2 ^ n) q ∙ r
+    ∙ ap (λ (y : ℕ). y / 2 ^ m % 2 ^ n) e
+    ∙ gather-part (bitAt s) (bitAt-lt s) (b * 8) (k + a) n m 64 (omega arith)
+    ∙ ap (λ (j : ℕ). gather (bitAt s) j n) u
+  where
+    mod-low : (y a n : ℕ) → y % 2 ^ (a + n) % 2 ^ n ≡ y % 2 ^ n
+    mod-low y a n = ap (λ (z : ℕ). z % 2 ^ n) (mod-pow-add y a n) ∙ low (y / 2 ^ n % 2 ^ a) n (mod-lt y (pow-pos n))
+
+-- the window at number i is within the bytes while 64 numbers are left
+pub window-inside : (i n w at skip b : ℕ) → 0 < w → i + 64 ≤ n → n * w ≤ 8 * b → at * 8 + skip ≡ i * w → at + 8 ≤ b
+window-inside i n w at skip b p h l e =
+    let m : (i + 64) * w ≤ n * w = mul-le-mul-right w h in
+    let q : (i + 64) * w ≡ i * w + 64 * w = add-mul i 64 w in
+    omega arith
+
+-- number i ends within the bytes
+pub number-inside : (i n w b : ℕ) → i < n → n * w ≤ b → i * w + w ≤ b
+number-inside i n w b h l = omega (arith, suc-mul i w, mul-le-mul-right w h)
+
+-- the place k numbers on, as a byte and the bits before it there
+pub place-on : (k i w at skip : ℕ) → at * 8 + skip ≡ i * w → (at + (skip + k * w) / 8) * 8 + (skip + k * w) % 8 ≡ (i + k) * w
+place-on k i w at skip e = omega (arith, add-mul i k w)
+
+pub place-next : (i w at skip : ℕ) → at * 8 + skip ≡ i * w → (at + (skip + w) / 8) * 8 + (skip + w) % 8 ≡ (i + 1) * w
+place-next i w at skip e = rw one-mul at (place-on 1 i w at skip e)

@@ -1,11 +1,12 @@
 // Numbers of w bits each, packed into bytes high bit first.
 ghost use mathlib.Core.Path.{_≡_};
-ghost use Prim.Native.Nat.{_+_, _-_, _*_, _/_, _%_, _^_, _≤_, _<_, min};
+ghost use Prim.Native.Nat.{ℕ, _+_, _-_, _*_, _/_, _%_, _^_, _≤_, _<_, min};
 ghost use mathlib.Core.List.{_++_};
 ghost use lib.ListN.{length, drop};
 ghost use Rattle.format.specs.Limits.{maxCount, maxWidth};
 ghost use Rattle.format.specs.Bits.{bitAt, gather, fetched, packed, bitBytes, packedBytes};
 ghost use Rattle.packing.specs.Appended.{Appended};
+ghost use Rattle.packing.specs.Turned.{turned};
 ghost use Rattle.packing.specs.Stream.{Stored, Pushed, Finished};
 
 // Numbers that are written one after the other: at bytes are full, and have bits wait, as the number acc.
@@ -52,7 +53,7 @@ pub fn packed_bytes(n: u64, w: u64) -> u64
 }
 
 // The byte that bit i * w is in. No product is larger than the result.
-fn byte_of(i: usize, w: usize) -> usize
+pub fn byte_of(i: usize, w: usize) -> usize
     requires { ⌜ (w ≤ 64) × (i * w / 8 < 2 ^ 64) ⌝ }
     ensures { λ r. ⌜ r ≡ i * w / 8 ⌝ }
 {
@@ -60,7 +61,7 @@ fn byte_of(i: usize, w: usize) -> usize
 }
 
 // How many bits of that byte come before it.
-fn skip_of(i: usize, w: usize) -> usize
+pub fn skip_of(i: usize, w: usize) -> usize
     requires { ⌜ w ≤ 64 ⌝ }
     ensures { λ r. ⌜ r ≡ i * w % 8 ⌝ }
 {
@@ -85,36 +86,42 @@ fn read(s: &[u8], b: usize, skip: usize, w: usize) -> u64
     acc
 }
 
-// Two bytes of s from byte b on, as one number.
-fn two_at(s: &[u8], b: usize) -> u64
-    requires { ⌜ b + 2 ≤ length (now s) ⌝ }
-    ensures { λ r. ⌜ r ≡ gather (bitAt (now (s .entry))) (b * 8) 16 ⌝ }
+// The eight bytes of x in the other order.
+fn swapped(x: u64) -> u64
+    ensures { λ r. ⌜ r ≡ turned x ⌝ }
 {
-    joined(wide(s[b]), 8, wide(s[b + 1]))
+    x % 256 * 72057594037927936
+        + x / 256 % 256 * 281474976710656
+        + x / 65536 % 256 * 1099511627776
+        + x / 16777216 % 256 * 4294967296
+        + x / 4294967296 % 256 * 16777216
+        + x / 1099511627776 % 256 * 65536
+        + x / 281474976710656 % 256 * 256
+        + x / 72057594037927936
 }
 
-// Four.
-fn four_at(s: &[u8], b: usize) -> u64
-    requires { ⌜ b + 4 ≤ length (now s) ⌝ }
-    ensures { λ r. ⌜ r ≡ gather (bitAt (now (s .entry))) (b * 8) 32 ⌝ }
-{
-    joined(two_at(s, b), 16, two_at(s, b + 2))
-}
-
-// Eight.
-fn eight_at(s: &[u8], b: usize) -> u64
+// Eight bytes of s from byte b on, as one number: one load and one swap, where it is called too.
+pub fn eight_at(s: &[u8], b: usize) -> u64
     requires { ⌜ b + 8 ≤ length (now s) ⌝ }
     ensures { λ r. ⌜ r ≡ gather (bitAt (now (s .entry))) (b * 8) 64 ⌝ }
 {
-    joined(four_at(s, b), 32, four_at(s, b + 4))
+    swapped(numbers::long_at(s, b))
 }
 
 // The w bits of x after its first skip ones.
-fn middle(x: u64, skip: usize, w: usize) -> u64
-    requires { ⌜ (skip < 8) × (0 < w) × (skip + w ≤ 64) ⌝ }
+pub fn middle(x: u64, skip: usize, w: usize) -> u64
+    requires { ⌜ (0 < w) × (skip + w ≤ 64) ⌝ }
     ensures { λ r. ⌜ r ≡ x / 2 ^ (64 - skip - w) % 2 ^ w ⌝ }
 {
     (x << skip) >> (64 - w)
+}
+
+// The bits of s that follow the first skip bits of its byte at, 57 or more, from the top of the result on.
+pub fn window(s: &[u8], at: usize, skip: usize) -> u64
+    requires { ⌜ (at + 8 ≤ length (now s)) × (skip < 8) ⌝ }
+    ensures { λ r. ⌜ ((a n : ℕ) → a + n ≤ 57 → r / 2 ^ (64 - a - n) % 2 ^ n ≡ gather (bitAt (now (s .entry))) (at * 8 + skip + a) n) ⌝ }
+{
+    eight_at(s, at) << skip
 }
 
 // The i-th number of w bits in s: from eight bytes at once if they hold it whole, else byte by byte.
@@ -133,6 +140,21 @@ pub fn fetch(s: &[u8], w: usize, i: usize) -> u64
         }
     }
     read(s, b, skip, w)
+}
+
+// Number i of the n of w bits in s, which starts after the first skip bits of byte at: from one window while 64 are left.
+pub fn next_of(s: &[u8], w: usize, i: usize, n: usize, at: usize, skip: usize) -> u64
+    requires { ⌜ (w ≤ 64) × (i < n) × (n * w ≤ 8 * length (now s)) × (at * 8 + skip ≡ i * w) × (skip < 8) ⌝ }
+    ensures { λ r. ⌜ r ≡ fetched (now (s .entry)) w i ⌝ }
+{
+    if 0 < w {
+        if w <= 57 {
+            if 64 <= n - i {
+                return middle(window(s, at, skip), 0, w);
+            }
+        }
+    }
+    fetch(s, w, i)
 }
 
 // The byte old with its first skip bits kept, then the n bits of part, then zeros.

@@ -1,7 +1,7 @@
 -- The turns of a loop that scans a sparse block's entries. Assumes nothing.
-use mathlib.Core.Path.{_≡_, ap₂}
+use mathlib.Core.Path.{_≡_, refl, ap, ap₂, _∙_}
 use mathlib.Core.List.{List}
-use Prim.Native.Nat.{ℕ, suc, _+_, _-_, _*_, _<_, _≤_}
+use Prim.Native.Nat.{ℕ, zero, suc, _+_, _-_, _*_, _<_, _≤_}
 use native.Mathlib.Nat.{add-zero}
 use native.Mathlib.Omega.{arith}
 use lib.ListN.{drop}
@@ -46,3 +46,14 @@ unfolding scan shorts
 scan-end s t c r i h =
     let e : c - i ≡ 0 = omega arith in
     rw e
+
+-- n entries below r are passed over
+pub scan-skip : (s : List ℕ) (t c r n i : ℕ) → i + n ≤ c → ((k : ℕ) → k < n → lowAt 2 s (t + 2 * i + 2 * k) < r) → scanned s t c r i ≡ scanned s t c r (i + n)
+scan-skip s t c r zero i h l = let e : i ≡ i + 0 = omega arith in ap (scanned s t c r) e
+scan-skip s t c r (suc n) i h l =
+    let a : t + 2 * i + 2 * 0 ≡ t + 2 * i = omega arith in
+    let b : i + 1 + n ≡ i + suc n = omega arith in
+    scan-on s t c r i (omega arith) (rw a at (l 0 (omega arith)))
+    ∙ scan-skip s t c r n (i + 1) (omega arith)
+    (λ k m. let d : t + 2 * i + 2 * suc k ≡ t + 2 * (i + 1) + 2 * k = omega arith in rw d at (l (suc k) (omega arith)))
+    ∙ ap (scanned s t c r) b

@@ -1,12 +1,14 @@
 // The values of an accepted value section, written into a lent buffer (document 01, "Value section").
 ghost use mathlib.Core.Path.{_≡_};
 ghost use mathlib.Core.List.{_++_};
-ghost use Prim.Native.Nat.{_+_, _*_, _^_, _≤_, _<_};
-ghost use lib.ListN.{length, drop};
+ghost use Prim.Native.Nat.{ℕ, _+_, _*_, _^_, _≤_, _<_};
+ghost use lib.ListN.{length, drop, set};
+ghost use lib.Seq.{sets};
 ghost use Rattle.format.specs.Bits.{unpacked};
 ghost use Rattle.format.specs.Pairs.{Each, Fits};
+ghost use Rattle.filling.proofs.Fill.{Fill};
 ghost use Rattle.signed.specs.Sign.{unbiased};
-ghost use Rattle.value_reader.specs.Stored.{valuesOf};
+ghost use Rattle.value_reader.specs.Stored.{valuesOf, FourFit, fourOf};
 
 // The value of a stored number, where it fits; `low` is the smallest value, biased.
 fn value_from(low: u64, step: u64, stored: u64) -> i64
@@ -16,6 +18,64 @@ fn value_from(low: u64, step: u64, stored: u64) -> i64
     signed::unbiased(low + stored * step)
 }
 
+// Stores the value of a stored number, where it fits.
+fn put_value(values: &mut [i64], i: usize, low: u64, step: u64, stored: u64)
+    requires { ⌜ (i < length (now values)) × (low + stored * step < 2 ^ 64) ⌝ }
+    ensures { λ _. ⌜ now (values .exit) ≡ set (now (values .entry)) i (unbiased (low + stored * step)) ⌝ }
+{
+    let v = value_from(low, step, stored);
+    values[i] = v;
+}
+
+// Stores the values of four numbers of w bits each, the first of which are at the top of x.
+fn put_four(values: &mut [i64], i: usize, x: u64, w: usize, low: u64, step: u64)
+    requires { ⌜ (0 < w) × (w ≤ 14) × (i + 4 ≤ length (now values)) × (FourFit low step x w) ⌝ }
+    ensures { λ _. ⌜ now (values .exit) ≡ sets (now (values .entry)) i (fourOf low step x w) ⌝ }
+{
+    let x0 = packing::middle(x, 0, w);
+    let x1 = packing::middle(x, w, w);
+    let x2 = packing::middle(x, 2 * w, w);
+    let x3 = packing::middle(x, 3 * w, w);
+    put_value(values, i, low, step, x0);
+    put_value(values, i + 1, low, step, x1);
+    put_value(values, i + 2, low, step, x2);
+    put_value(values, i + 3, low, step, x3);
+}
+
+// The first of the values, four from one window, up to the last 64; none for a width that no four of fit a window. Says how many.
+fn fill_fours(
+    values: &mut [i64],
+    section: &[u8],
+    bits: u64,
+    least: u64,
+    step: u64,
+    n: usize,
+) -> usize
+    requires { ⌜ (bits ≤ 64) × (n * bits ≤ 8 * length (now section)) × (n ≤ length (now values)) × (Each Fits (valuesOf least step (unpacked bits n (now section)))) ⌝ }
+    ensures { λ r. ⌜ (r ≤ n) × Fill (now (values .entry)) 0 (valuesOf least step (unpacked bits n (now (section .entry)))) (now (values .exit)) r (valuesOf least step (drop r (unpacked bits n (now (section .entry))))) ⌝ }
+{
+    let low = signed::biased_of(least);
+    let w = numbers::size(bits);
+    if w == 0 {
+        return 0;
+    }
+    if 14 < w {
+        return 0;
+    }
+    let mut i: usize = 0;
+    let mut at: usize = 0;
+    let mut skip: usize = 0;
+    while 64 <= n - i {
+        let x = packing::window(section, at, skip);
+        put_four(values, i, x, w, low, step);
+        i += 4;
+        let next = skip + 4 * w;
+        at += next >> 3;
+        skip = next & 7;
+    }
+    i
+}
+
 // The values of n stored numbers, all of which fit, from the buffer's front on.
 pub fn fill_values(values: &mut [i64], section: &[u8], bits: u64, least: u64, step: u64, n: usize)
     requires { ⌜ (bits ≤ 64) × (n * bits ≤ 8 * length (now section)) × (n ≤ length (now values)) × (Each Fits (valuesOf least step (unpacked bits n (now section)))) ⌝ }
@@ -23,10 +83,15 @@ pub fn fill_values(values: &mut [i64], section: &[u8], bits: u64, least: u64, st
 {
     let low = signed::biased_of(least);
     let w = numbers::size(bits);
-    let mut i: usize = 0;
+    let mut i = fill_fours(values, section, bits, least, step, n);
+    let mut at = packing::byte_of(i, w);
+    let mut skip = packing::skip_of(i, w);
     while i < n {
-        let v = value_from(low, step, packing::fetch(section, w, i));
+        let v = value_from(low, step, packing::next_of(section, w, i, n, at, skip));
         values[i] = v;
         i += 1;
+        let next = skip + w;
+        at += next >> 3;
+        skip = next & 7;
     }
 }

@@ -3,6 +3,7 @@
 ghost use mathlib.Core.Path.{_≡_};
 ghost use mathlib.Core.List.{_++_};
 ghost use Prim.Native.Nat.{_+_, _-_, _*_, _/_, _≤_, _<_, min, max};
+ghost use lib.Dec.{leb};
 ghost use lib.ListN.{length, drop};
 ghost use Rattle.format.specs.HeaderNumbers.{unzigzag};
 ghost use Rattle.format.specs.Bits.{packedBytes, fetched};
@@ -80,17 +81,58 @@ pub fn gcd(a: u64, b: u64) -> u64
     x
 }
 
+// 2^32 / d, rounded down, 0 if d is 0: with it a division by d is two products. Most columns have divisor 1.
+pub fn reciprocal(d: u64) -> u64
+    ensures { λ r. ⌜ (r * d ≤ 4294967296) × (r ≤ 4294967296) ⌝ }
+{
+    if d == 0 {
+        return 0;
+    }
+    if d == 1 {
+        return 4294967296;
+    }
+    4294967296 / d
+}
+
+// The reciprocal of h, where m is that of g.
+pub fn renewed(m: u64, g: u64, h: u64) -> u64
+    requires { ⌜ (m * g ≤ 4294967296) × (m ≤ 4294967296) ⌝ }
+    ensures { λ r. ⌜ (r * h ≤ 4294967296) × (r ≤ 4294967296) ⌝ }
+{
+    if h == g { m } else { reciprocal(h) }
+}
+
+// The greatest common divisor; without a division if it is g.
+pub fn common(g: u64, m: u64, x: u64) -> u64
+    requires { ⌜ (m * g ≤ 4294967296) × (m ≤ 4294967296) ⌝ }
+    ensures { λ r. ⌜ r ≡ gcd g x ⌝ }
+{
+    if x < 4294967296 {
+        let r = x - ((x * m) >> 32) * g;
+        if r == 0 {
+            return g;
+        }
+        if r == g {
+            return g;
+        }
+    }
+    gcd(g, x)
+}
+
 // Of the values taken without sign. Once it is 1 it stays so.
 pub fn gcd_of(values: &[i64]) -> u64
     ensures { λ r. ⌜ r ≡ gcdOf 0 (now (values .entry)) ⌝ }
 {
     let mut g: u64 = 0;
+    let mut m: u64 = 0;
     let mut i = 0;
     while i < values.len() {
-        if g == 1 {
+        let h = common(g, m, signed::magnitude(values[i]));
+        if h == 1 {
             return 1;
         }
-        g = gcd(g, signed::magnitude(values[i]));
+        m = renewed(m, g, h);
+        g = h;
         i += 1;
     }
     g
@@ -137,12 +179,25 @@ pub fn summary_of(values: &[i64]) -> Summary
     }
 }
 
-// d / step. Most columns have divisor 1, and a division is slow.
-fn quotient(d: u64, step: u64) -> u64
-    requires { ⌜ 0 < step ⌝ }
-    ensures { λ r. ⌜ r ≡ d / step ⌝ }
+// x / d; m is the reciprocal of d. Most columns have divisor 1, and a division is slow.
+fn quotient(x: u64, d: u64, m: u64) -> u64
+    requires { ⌜ (0 < d) × (m * d ≤ 4294967296) × (m ≤ 4294967296) ⌝ }
+    ensures { λ r. ⌜ r ≡ x / d ⌝ }
 {
-    if step == 1 { d } else { d / step }
+    if d == 1 {
+        return x;
+    }
+    if x < 4294967296 {
+        let q = (x * m) >> 32;
+        let r = x - q * d;
+        if r < d {
+            return q;
+        }
+        if r - d < d {
+            return q + 1;
+        }
+    }
+    x / d
 }
 
 // Writes the value section to the front of out, the part of the output that starts where the section starts.
@@ -153,6 +208,7 @@ pub fn put_values(out: &mut [u8], values: &[i64], sum: Summary)
     let low = sum.low;
     let step = sum.step;
     let w = sum.bits as usize;
+    let m = reciprocal(step);
     let mut p = packing::Pending {
         at: 0,
         have: 0,
@@ -160,11 +216,28 @@ pub fn put_values(out: &mut [u8], values: &[i64], sum: Summary)
     };
     let mut i = 0;
     while i < values.len() {
-        let x = quotient(signed::biased(values[i]) - low, step);
+        let x = quotient(signed::biased(values[i]) - low, step, m);
         p = packing::push(out, p, w, x);
         i += 1;
     }
     packing::finish(out, p);
+}
+
+// Whether stored * step is at most room; without a division where step is 1 or both are below 2^32. Step 1 comes first: of numbers
+// on both sides of 2^32 the other test would be guessed wrong half of the time.
+pub fn product_fits(stored: u64, step: u64, room: u64) -> bool
+    requires { ⌜ 0 < step ⌝ }
+    ensures { λ r. ⌜ r ≡ leb (stored * step) room ⌝ }
+{
+    if step == 1 {
+        return stored <= room;
+    }
+    if stored < 4294967296 {
+        if step < 4294967296 {
+            return stored * step <= room;
+        }
+    }
+    stored <= room / step
 }
 
 // Document 01, the look-up's step 7: smallest + g times the stored number, which must fit in 64 bits. `least` is the header
@@ -174,7 +247,7 @@ pub fn value_of(least: u64, step: u64, stored: u64) -> Fetched
     ensures { λ r. ⌜ r ≡ kept (valueAt (unzigzag least) step stored) ⌝ }
 {
     let b = signed::biased_of(least);
-    if stored <= (u64::MAX - b) / step {
+    if product_fits(stored, step, u64::MAX - b) {
         Fetched::Value(signed::unbiased(b + stored * step))
     } else {
         Fetched::Outside

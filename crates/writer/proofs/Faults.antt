@@ -1,8 +1,11 @@
 -- The turns of the loops that look for a fault. Assumes nothing.
 use mathlib.Core.Path.{_≡_, refl}
+use native.Mathlib.Omega.{arith}
+use Rattle.format.specs.Pairs.{Asc}
+use Rattle.section_writer.proofs.Runs.{asc-from}
 use mathlib.Core.Option.{none, some}
 use mathlib.Core.List.{List, [], _∷_}
-use Prim.Native.Nat.{ℕ, _+_, _-_, _≤_, _<_}
+use Prim.Native.Nat.{ℕ, zero, suc, _+_, _-_, _≤_, _<_}
 use native.Mathlib.Numerals.{add-one}
 use lib.ListN.{length, getD, drop, drop-of-length-le}
 use lib.Seq.{drop-cons}
@@ -40,3 +43,12 @@ module _ (ids : List ℕ) (i : ℕ) where
   pub range-here : i < length ids → 2147352575 < getD ids i 0 → rangeFault i (drop i ids) ≡ some i
   unfolding rangeFault
   range-here h k = rw (drop-cons ids i 0 h, lt-leb (getD ids i 0) 2147352575 k)
+
+-- ids that ascend up to one within the limit are all within it
+pub in-limit : (i a n : ℕ) (ids : List ℕ) → Asc a ids → length ids ≡ suc n → getD ids n 0 ≤ 2147352575 → rangeFault i ids ≡ none
+unfolding rangeFault
+in-limit i a n [] t e h = absurd (omega arith)
+in-limit i a zero (x ∷ []) t e h = rw (le-leb x 2147352575 h)
+in-limit i a zero (x ∷ y ∷ ys) t e h = absurd (omega arith)
+in-limit i a (suc n) (x ∷ xs) t e h =
+    rw (le-leb x 2147352575 (omega (arith, asc-from (suc x) xs n (t .1) (omega arith)))) (in-limit (suc i) (suc x) n xs (t .1) (omega arith) h)

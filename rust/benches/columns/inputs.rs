@@ -67,8 +67,8 @@ pub struct Input {
 }
 
 impl Input {
-    /// Whole blocks, until there are at least so many pairs.
-    pub fn new(shape: Shape, pairs: usize) -> Self {
+    /// Whole blocks, until there are at least so many pairs; stored numbers of so many bits.
+    pub fn new(shape: Shape, pairs: usize, width: u32) -> Self {
         let mut random = Random(7);
         let mut ids = Vec::new();
         for block in 0.. {
@@ -79,10 +79,7 @@ impl Input {
             let places = (0..65_536).filter(|_| (random.next() & 0xFFFF) < listed);
             ids.extend(places.map(|place| (block << 16) | place));
         }
-        let values: Vec<i64> = ids
-            .iter()
-            .map(|_| (random.next() & 0xFFF) as i64 - 900)
-            .collect();
+        let values = values(&mut random, ids.len(), width);
         let bytes = signalfern::write_to_vec(&ids, &values, 9).expect("a list of pairs");
         Self {
             shape,
@@ -117,6 +114,19 @@ impl Input {
         }
         ids
     }
+}
+
+/// Values whose differences to the smallest take just so many bits; some are below 0.
+fn values(random: &mut Random, count: usize, width: u32) -> Vec<i64> {
+    let most = u64::MAX.checked_shr(64 - width).unwrap_or(0);
+    let smallest = if width < 63 { -900 } else { i64::MIN };
+    let value = |difference: u64| smallest.wrapping_add(difference as i64);
+    let mut any = || value((random.next() ^ random.next() << 32) & most);
+    let mut values: Vec<i64> = (0..count).map(|_| any()).collect();
+    if let [first, .., last] = values.as_mut_slice() {
+        (*first, *last) = (value(0), value(most));
+    }
+    values
 }
 
 /// A small generator (xorshift with a multiplied output).

@@ -1,12 +1,16 @@
 //! Times, medians and tables.
 
+use std::collections::BTreeMap;
+use std::fmt::Write;
 use std::hint::black_box;
+use std::path::Path;
 use std::time::Instant;
 
 /// The median times of one run, in nanoseconds.
+#[derive(Clone, Copy)]
 pub struct Measured {
-    proved: f64,
-    reference: f64,
+    pub proved: f64,
+    pub reference: f64,
 }
 
 impl Measured {
@@ -41,10 +45,43 @@ fn median(mut times: Vec<f64>) -> f64 {
     times[times.len() / 2]
 }
 
+/// The proved calls' times of a whole run, by column and call, in nanoseconds for each unit.
+#[derive(Default)]
+pub struct Times(BTreeMap<String, f64>);
+
+impl Times {
+    /// Reads what [`Times::text`] gave.
+    pub fn read(path: &Path) -> Result<Self, String> {
+        let wrong = |what: &str| format!("{}: {what}", path.display());
+        let text = std::fs::read_to_string(path).map_err(|error| wrong(&error.to_string()))?;
+        let line = |line: &str| {
+            let (time, name) = line.split_once(' ')?;
+            Some((name.to_string(), time.parse().ok()?))
+        };
+        let rows: Option<_> = text.lines().map(line).collect();
+        rows.map(Self).ok_or(wrong("no times of this benchmark"))
+    }
+
+    /// A line for each time.
+    pub fn text(&self) -> String {
+        self.0.iter().fold(String::new(), |mut text, (name, time)| {
+            let _ = writeln!(text, "{time} {name}");
+            text
+        })
+    }
+}
+
 /// A table in Markdown.
 pub struct Table {
     first: &'static str,
-    rows: Vec<(String, f64)>,
+    rows: Vec<Row>,
+}
+
+struct Row {
+    name: String,
+    what: String,
+    unit: &'static str,
+    each: Measured,
 }
 
 impl Table {
@@ -56,32 +93,66 @@ impl Table {
         }
     }
 
-    /// A row: times for each of `count` units, and their ratio.
-    pub fn add(&mut self, name: &str, what: &str, unit: &str, count: usize, measured: Measured) {
-        let each = |time: f64| format!("{:.2}", time / count as f64);
-        let (proved, reference) = (each(measured.proved), each(measured.reference));
-        let ratio = measured.proved / measured.reference;
-        let row = format!("| {name} | {what} | {unit} | {proved} | {reference} | {ratio:.2} |");
-        self.rows.push((row, ratio));
+    /// A row: times for each of `count` units.
+    pub fn add(&mut self, name: &str, what: &str, unit: &'static str, count: usize, run: Measured) {
+        let each = Measured {
+            proved: run.proved / count as f64,
+            reference: run.reference / count as f64,
+        };
+        let (name, what) = (name.to_string(), what.to_string());
+        self.rows.push(Row {
+            name,
+            what,
+            unit,
+            each,
+        });
     }
 
-    /// Prints the table, and how many rows are behind.
-    pub fn print(&self) {
+    /// Prints the table, and how many rows are behind. With times of another revision it has two
+    /// columns more.
+    pub fn print(&self, before: Option<&Times>) {
+        let more = before.map_or("", |_| " before, ns | proved / before |");
         println!(
-            "| {} | call | for each | proved, ns | reference, ns | proved / reference |",
+            "| {} | call | for each | proved, ns | reference, ns | proved / reference |{more}",
             self.first
         );
-        println!("|---|---|---|---:|---:|---:|");
-        for (row, _) in &self.rows {
-            println!("{row}");
+        let more = before.map_or("", |_| "---:|---:|");
+        println!("|---|---|---|---:|---:|---:|{more}");
+        for row in &self.rows {
+            let Measured { proved, reference } = row.each;
+            let ratio = proved / reference;
+            let mut more = String::new();
+            if let Some(time) = before.map(|times| times.0.get(&row.key()).copied()) {
+                let time = time.unwrap_or(f64::NAN);
+                let _ = write!(more, " {time:.2} | {:.2} |", proved / time);
+            }
+            let Row {
+                name, what, unit, ..
+            } = row;
+            println!(
+                "| {name} | {what} | {unit} | {proved:.2} | {reference:.2} | {ratio:.2} |{more}"
+            );
         }
-        let above = |limit: f64| self.rows.iter().filter(|(_, ratio)| *ratio > limit).count();
+        let ratio = |row: &&Row| row.each.proved / row.each.reference;
+        let above = |limit: f64| self.rows.iter().filter(|row| ratio(row) > limit).count();
         let rows = self.rows.len();
         println!(
-            "\nOf {rows} lines, {} are above 1.1 and {} above 1.5.",
+            "\nOf {rows} lines, {} are above 1.1 and {} above 1.5 of the reference.",
             above(1.1),
             above(1.5)
         );
+    }
+
+    /// Adds the proved calls' times to those of the run.
+    pub fn keep(&self, times: &mut Times) {
+        let rows = self.rows.iter();
+        times.0.extend(rows.map(|row| (row.key(), row.each.proved)));
+    }
+}
+
+impl Row {
+    fn key(&self) -> String {
+        format!("{}, {}", self.name, self.what)
     }
 }
 

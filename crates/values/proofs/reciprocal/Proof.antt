@@ -1,0 +1,16 @@
+-- `values::reciprocal` meets its contract. Assumes nothing.
+use Prim.Native.Nat.{ℕ, _<_}
+use native.Mathlib.Omega.{arith}
+use native.Mathlib.Nat.{le-div-iff-mul-le, div-le-self}
+use borrow.Author.Needs.{needs}
+use Rattle.values.proofs.reciprocal.Statement.{statement}
+use Rattle.values.proofs.reciprocal.Tie as tie
+
+returns-3 : tie.Need-returns-3
+returns-3 c =
+    let d : ℕ = c .before .before .args .d in
+    let p : 0 < d = omega arith in
+    (le-div-iff-mul-le p .0 (omega arith), div-le-self 4294967296 d)
+
+pub reciprocal-spec : {M : Type 1} → statement M
+reciprocal-spec = tie.close (tie.spec (λ c. search needs) (λ c. search needs) (λ c. search needs) returns-3)

@@ -1,0 +1,78 @@
+//! What `cargo bench --bench columns -- ...` is asked for.
+
+use std::path::PathBuf;
+
+use crate::inputs::LOOK_UPS;
+use crate::measure::Times;
+
+/// How much to do. A run is short, so that on a busy machine most of them pass undisturbed.
+pub struct Effort {
+    pub runs: usize,
+    pub pairs: usize,
+    pub look_ups: usize,
+    pub growth: &'static [usize],
+}
+
+const FULL: Effort = Effort {
+    runs: 61,
+    pairs: 100_000,
+    // An odd number of runs, so that in turns both sides get each of them.
+    look_ups: 21 * LOOK_UPS,
+    growth: &[
+        32_000, 65_000, 130_000, 260_000, 520_000, 1_040_000, 2_100_000, 4_200_000, 8_400_000,
+    ],
+};
+
+/// Only to see that it runs: `cargo test --benches`.
+const SMALL: Effort = Effort {
+    runs: 1,
+    pairs: 70_000,
+    look_ups: LOOK_UPS,
+    growth: &[32_000, 65_000],
+};
+
+/// What stood on the command line.
+pub struct Options {
+    pub effort: Effort,
+    /// Only the table over the widths of stored numbers.
+    pub widths: bool,
+    /// Only the measurements of growth, drawn into this file.
+    pub plot: Option<PathBuf>,
+    /// Where the proved calls' times go.
+    pub save: Option<PathBuf>,
+    /// Times of another revision, set beside these.
+    pub before: Option<Times>,
+}
+
+impl Options {
+    /// Takes the words after the program's name apart, or says what is wrong with them.
+    pub fn read(words: impl Iterator<Item = String>) -> Result<Self, String> {
+        let mut options = Self {
+            effort: SMALL,
+            widths: false,
+            plot: None,
+            save: None,
+            before: None,
+        };
+        let mut words = words;
+        while let Some(word) = words.next() {
+            let mut value = || words.next().ok_or(format!("{word} needs a file"));
+            match word.as_str() {
+                // `cargo bench` says so; `cargo test` does not.
+                "--bench" => options.effort = FULL,
+                "--widths" => options.widths = true,
+                "--plot" => options.plot = Some(value()?.into()),
+                "--save" => options.save = Some(value()?.into()),
+                "--beside" => options.before = Some(Times::read(value()?.as_ref())?),
+                _ => return Err(format!("there is no option {word}\n{USAGE}")),
+            }
+        }
+        Ok(options)
+    }
+}
+
+const USAGE: &str = "cargo bench --bench columns -- [--widths | --plot FILE.svg] \
+[--save FILE] [--beside FILE]
+  --widths       the calls at each width of stored numbers in place of each kind of block
+  --plot FILE    how look-up, check and reading grow with the pairs and with the bytes, drawn
+  --save FILE    keep the times; --beside FILE sets such times, of another revision, beside these";
