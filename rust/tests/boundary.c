@@ -74,6 +74,18 @@ int main(void)
     reply = signalfern_read(out, len, &read_id, 1, &read_value, 0);
     PROMISE(reply.refusal == SIGNALFERN_BUFFER && reply.number == 1 && read_id == 77);
 
+    /* A column opened from other bytes, or changed: after the id its numbers are held to the header rules and to these bytes. */
+    column = signalfern_open(empty, 23);
+    PROMISE(column.refusal == 0 && column.count == 0);
+    PROMISE(same_answer(signalfern_look_up_in(column, out, len, 4), SIGNALFERN_LENGTH, 0, 0, 0));
+    PROMISE(same_answer(signalfern_look_up_in(column, out, len, SIGNALFERN_MAX_ID + 1), SIGNALFERN_ID, 0, 0, 0));
+    column = signalfern_open(out, len);
+    column.power = 6;
+    PROMISE(same_answer(signalfern_look_up_in(column, out, len, 4), SIGNALFERN_HEADER, 0, 0, 0));
+    PROMISE(same_answer(signalfern_look_up_in(column, out, len, SIGNALFERN_MAX_ID + 1), SIGNALFERN_ID, 0, 0, 0));
+    column.power = 7;
+    PROMISE(same_answer(signalfern_look_up_in(column, out, len, 4), SIGNALFERN_FOUND, 0, -1, 0));
+
     /* A refused opening holds 0 in all fields of the column, and a look-up in it is refused. */
     column = signalfern_open(out, len - 1);
     signalfern_column refused;

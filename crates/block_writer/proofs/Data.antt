@@ -7,14 +7,11 @@ use lib.Seq.{sets}
 use Rattle.format.specs.Bytes.{digits, low, bytesOf}
 use Rattle.format.specs.Ids.{byKind, kindOf, rankBytes, dataBytes, blockBytes, blockData, blockOf}
 use Rattle.format.proofs.Digits.{length-digits}
-use Rattle.format.proofs.Blocks.{Fine}
-use Rattle.numbers.proofs.Sets.{sets-then}
-use Rattle.dense_writer.specs.Part.{placesFrom, bitsOf, From}
-use Rattle.dense_writer.proofs.Words.{places-cons, places-end}
-use Rattle.block_writer.specs.Run.{runOf}
-use Rattle.blocks.specs.Kinds.{kindIs}
+use Rattle.format.proofs.Stores.{sets-then}
+use Rattle.block_writer.specs.Part.{placesFrom, runOf, bitsOf, From}
+use Rattle.block_writer.proofs.Words.{places-cons, places-end}
 use Rattle.format.specs.Ids as F
-use Rattle.blocks.specs.declared.Kind as K
+use Rattle.format.specs.Runs.{Fine}
 
 -- ---- how many
 
@@ -50,7 +47,8 @@ head-is xs out at b c eb ec =
     ∙ ap₂ (λ (x y : ℕ). sets out at (low 2 x ++ low 2 y)) eb (ec ∙ ap (λ (n : ℕ). n - 1) (sym (length-places xs)))
 
 pub block-is : (xs out : List ℕ) (p at : ℕ)
-    → sets (sets out at (low 2 (runOf xs .block) ++ low 2 (length (runOf xs .places) - 1))) (at + 4) (blockData p (runOf xs .places)) ≡ sets out at (blockOf p (runOf xs))
+    → sets (sets out at (low 2 (runOf xs .block) ++ low 2 (length (runOf xs .places) - 1))) (at + 4) (blockData p (runOf xs .places))
+    ≡ sets out at (blockOf p (runOf xs))
 unfolding blockOf digits
 block-is xs out p at =
     sym
@@ -79,6 +77,3 @@ module _ (p : ℕ) (xs : List ℕ) where
   pub data-by-all : kindOf (length xs) ≡ F.all → blockData p (placesFrom xs 0) ≡ []
   unfolding blockData byKind
   data-by-all e = rw (length-places xs, e)
-
-pub told : (k s : K.Kind) (n : ℕ) → kindIs k ≡ kindOf n → k ≡ s → kindOf n ≡ kindIs s
-told k s n e f = sym e ∙ ap kindIs f

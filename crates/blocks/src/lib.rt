@@ -1,9 +1,9 @@
 // A block of the id section: its kind, its sizes, the ones of its longs (document 01, "Id section").
 ghost use mathlib.Core.Path.{_≡_};
-ghost use Prim.Native.Nat.{_+_, _-_, _*_, _^_, _≤_, _<_};
+ghost use Prim.Native.Nat.{_+_, _-_, _*_, _/_, _%_, _^_, _≤_, _<_};
 ghost use lib.ListN.{length};
 ghost use lib.Count.{ones, onesIn};
-ghost use Rattle.format.specs.Limits.{Power};
+ghost use Rattle.format.specs.Limits.{Power, blockPlaces, bitmapLongs};
 ghost use Rattle.format.specs.Ids.{kindOf, rankBytes, dataBytes, blockBytes};
 ghost use Rattle.format.specs.LookUp.{onesFrom};
 ghost use Rattle.blocks.specs.Kinds.{kindIs};
@@ -23,12 +23,41 @@ pub struct Block {
     pub kind: Kind,
 }
 
+impl Block {
+    // The places of a block.
+    pub const PLACES: usize = 65536;
+    // The least count of a dense block.
+    pub const DENSE_COUNT: usize = 4096;
+    // The longs of a dense block's bitmap, and their bytes.
+    pub const LONGS: usize = 1024;
+
+    pub const BITMAP_BYTES: usize = 8192;
+    // The end block's number.
+    pub const END: u64 = 32767;
+}
+
+// ---- an id's block, and its place there
+
+pub fn number_of(id: u32) -> usize
+    ensures { λ r. ⌜ (r ≡ id / blockPlaces) × (r < blockPlaces) ⌝ }
+{
+    (id as usize) / Block::PLACES
+}
+
+pub fn place_of(id: u32) -> usize
+    ensures { λ r. ⌜ (r ≡ id % blockPlaces) × (r < blockPlaces) ⌝ }
+{
+    (id as usize) % Block::PLACES
+}
+
+// ---- kinds
+
 pub fn kind_of(count: usize) -> Kind
     ensures { λ r. ⌜ kindIs r ≡ kindOf count ⌝ }
 {
-    if count < 4096 {
+    if count < Block::DENSE_COUNT {
         Kind::Sparse
-    } else if count < 65536 {
+    } else if count < Block::PLACES {
         Kind::Dense
     } else {
         Kind::All
@@ -60,7 +89,7 @@ pub fn stride(p: usize) -> usize
 // The strides of a block.
 pub fn strides(p: usize) -> usize
     requires { ⌜ p ≤ 16 ⌝ }
-    ensures { λ r. ⌜ (r ≡ 2 ^ (16 - p)) × (r ≤ 65536) ⌝ }
+    ensures { λ r. ⌜ (r ≡ 2 ^ (16 - p)) × (r ≤ blockPlaces) ⌝ }
 {
     numbers::size(numbers::pow2(16 - p))
 }
@@ -70,11 +99,11 @@ pub fn data_bytes(p: usize, c: usize) -> usize
     requires { ⌜ Power p ⌝ }
     ensures { λ r. ⌜ (r ≡ dataBytes p c) × (r ≤ 9216) ⌝ }
 {
-    if c < 4096 {
+    if c < Block::DENSE_COUNT {
         return 2 * c;
     }
-    if c < 65536 {
-        return rank_bytes(p) + 8192;
+    if c < Block::PLACES {
+        return rank_bytes(p) + Block::BITMAP_BYTES;
     }
     0
 }
@@ -96,7 +125,7 @@ pub fn ones_of(w: u64) -> u64
 
 // The ones of n longs from long `first` on, of those at m.
 pub fn ones_from(s: &[u8], m: usize, n: usize, first: usize) -> u64
-    requires { ⌜ (m + 8 * (first + n) ≤ length (now s)) × (n ≤ 1024) ⌝ }
+    requires { ⌜ (m + 8 * (first + n) ≤ length (now s)) × (n ≤ bitmapLongs) ⌝ }
     ensures { λ r. ⌜ (r ≡ onesFrom (now (s .entry)) m n first) × (r ≤ 64 * n) ⌝ }
 {
     let mut sum: u64 = 0;

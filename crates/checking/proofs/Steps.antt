@@ -11,7 +11,7 @@ use Rattle.format.specs.Column.{Head}
 use Rattle.format.specs.Opening.{Opened, openColumn, idPart, valuePart}
 use Rattle.format.specs.Check.{pairsIn, isColumn, accepted, check}
 use Rattle.judge.specs.Judge.{judge}
-use Rattle.column.proofs.Facts.{sound}
+use Rattle.format.proofs.Open.{sound}
 use Rattle.value_check.specs.ValuesOk.{valuesOk}
 use Rattle.checking.specs.Tests.{holds, idsOk, columnOk}
 
@@ -36,7 +36,8 @@ module _ (bytes : List ℕ) (c : Opened) (a b : ℕ) (ea : a ≡ c .start) (eb :
   unfolding valuePart
   values-long e = ap length values-part ∙ omega (arith, length-drop (c .start + c .head .idBytes) bytes, sound bytes c e .whole)
 
-  with-parts : {t v : Bool} → t ≡ idsOk (c .head) (take (a + b - a) (drop a bytes)) → v ≡ valuesOk (c .head) (take (length bytes - (a + b)) (drop (a + b) bytes))
+  with-parts : {t v : Bool} → t ≡ idsOk (c .head) (take (a + b - a) (drop a bytes))
+      → v ≡ valuesOk (c .head) (take (length bytes - (a + b)) (drop (a + b) bytes))
       → t && v ≡ columnOk bytes c
   unfolding columnOk
   with-parts e f = ap₂ (λ (x y : Bool). x && y) (e ∙ ap (idsOk (c .head)) ids-part) (f ∙ ap (valuesOk (c .head)) values-part)

@@ -1,5 +1,5 @@
--- An opened column passes the tests exactly if it is the column of the pairs that it holds; what one that passes holds.
--- Assumes nothing.
+-- An opened column passes the tests exactly if it is the column of the pairs that it holds: the tests give the two halves that the definition
+-- asks, and are given by them. Assumes nothing.
 use mathlib.Core.Path.{_≡_, refl, sym, ap, _∙_, subst}
 use mathlib.Core.Bool.{Bool, true, false}
 use mathlib.Core.List.{List, map}
@@ -10,19 +10,19 @@ use borrow.Author.Tests.{eqb-true, eq-eqb}
 use Rattle.format.specs.Refusals.{Outcome, done, refused, need, DAMAGED}
 use Rattle.format.specs.Bits.{unpacked}
 use Rattle.format.specs.IdsRead.{idsOf, readRuns}
-use Rattle.format.specs.Pairs.{Below, Each, Fits}
+use Rattle.format.specs.Pairs.{Below}
 use Rattle.format.specs.Column.{Head}
 use Rattle.format.specs.Opening.{Opened, openColumn, idPart, valuePart, valueIn}
 use Rattle.format.specs.Check.{pairsIn, isColumn, accepted}
-use Rattle.format.proofs.Unique.{needed}
+use Rattle.format.proofs.Tests.{needed, both-true, true-both}
 use Rattle.judge.specs.Judge.{judge}
 use Rattle.judge.proofs.Parts.{below-drop, below-take}
-use Rattle.judge.proofs.Judged.{SectionOf, judge-sound, section-decoded}
+use Rattle.judge.proofs.Judged.{judge-sound, section-decoded}
 use Rattle.judge.proofs.Split.{Parts, parts, ValuesOf, accepted-split, accepted-joined}
-use Rattle.column.specs.Facts.{HeadFacts}
-use Rattle.column.proofs.Facts.{sound}
+use Rattle.format.specs.Rules.{HeadFacts}
+use Rattle.format.proofs.Open.{sound}
 use Rattle.value_check.specs.ValuesOk.{valuesOk}
-use Rattle.value_check.proofs.Tested.{both, and-true, length-unpacked}
+use Rattle.format.proofs.Bits.{length-unpacked}
 use Rattle.value_check.proofs.Accepted.{values-sound, values-complete}
 use Rattle.checking.specs.Tests.{holds, idsOk, columnOk}
 
@@ -39,16 +39,6 @@ holds-true n (refused why at) e = absurd (let z : _≡_ {A = ℕ} 0 1 = cc in om
 true-holds : (n : ℕ) (o : Outcome ℕ) → o ≡ done n → holds n o ≡ true
 unfolding holds
 true-holds n o e = rw e (eq-eqb n n refl)
-
--- what a column that passes holds
-pub record Taken (bytes : List ℕ) (c : Opened) : Type 0 where
-  pub judged : judge (c .head .power) (c .head .jumpCount) (idPart bytes c) ≡ done (c .head .count)
-  pub section : SectionOf (c .head .power) (c .head .jumpCount) (idPart bytes c) (c .head .count)
-  pub ids : pairsIn bytes c .ids ≡ section .ids
-  pub count : length (pairsIn bytes c .ids) ≡ c .head .count
-  pub values : pairsIn bytes c .values ≡ map (valueIn (c .head)) (unpacked (c .head .bits) (c .head .count) (valuePart bytes c))
-  pub fit : Each Fits (pairsIn bytes c .values)
-  pub accepted : accepted bytes c ≡ done (pairsIn bytes c)
 
 module _ (bytes : List ℕ) (c : Opened) (u : Below 256 bytes) (opens : openColumn bytes ≡ done c) (small : c .head .least < 2 ^ 64) where
   abbrev hd : Head
@@ -82,33 +72,25 @@ module _ (bytes : List ℕ) (c : Opened) (u : Below 256 bytes) (opens : openColu
   unfolding pairsIn
   as-many = length-map (unpacked (hd .bits) _ (valuePart bytes c)) (valueIn hd) ∙ length-unpacked (hd .bits) _ (valuePart bytes c)
 
-  pub taken : columnOk bytes c ≡ true → Taken bytes c
+  taken : columnOk bytes c ≡ true → accepted bytes c ≡ done (pairsIn bytes c)
   unfolding columnOk idsOk
   taken t =
-      let b = both (holds (hd .count) (judge (hd .power) (hd .jumpCount) (idPart bytes c))) (valuesOk hd (valuePart bytes c)) t in
+      let b = both-true (holds (hd .count) (judge (hd .power) (hd .jumpCount) (idPart bytes c))) (valuesOk hd (valuePart bytes c)) t in
       let j : judge (hd .power) (hd .jumpCount) (idPart bytes c) ≡ done (hd .count) = holds-true (hd .count) _ (b .0) in
       let sec = judge-sound (hd .power) (facts .power) (hd .jumpCount) (idPart bytes c) (hd .count) below-ids j in
       let e : pairsIn bytes c .ids ≡ sec .ids = ids-are ∙ section-decoded (hd .power) (facts .power) (hd .jumpCount) (idPart bytes c) (hd .count) sec in
       let n : length (pairsIn bytes c .ids) ≡ hd .count = ap length e ∙ sec .count in
       let v : ValuesOf hd (valuePart bytes c) (pairsIn bytes c .values) =
       subst (ValuesOf hd (valuePart bytes c)) (sym (values-are n)) (values-sound hd (valuePart bytes c) facts small (all-of .value-long) below-values (b .1)) in
-      record {
-        judged = j;
-        section = sec;
-        ids = e;
-        count = n;
-        values = values-are n;
-        fit = v .fit;
-        accepted = accepted-split bytes c u opens j v;
-      }
+      accepted-split bytes c u opens j v
 
-  pub taken-back : isColumn bytes (hd .power) (pairsIn bytes c) ≡ true → columnOk bytes c ≡ true
+  taken-back : isColumn bytes (hd .power) (pairsIn bytes c) ≡ true → columnOk bytes c ≡ true
   unfolding columnOk idsOk accepted need
   taken-back t =
       let a : accepted bytes c ≡ done (pairsIn bytes c) = rw t in
       let r = accepted-joined bytes c u opens (pairsIn bytes c) a in
       let n : length (pairsIn bytes c .ids) ≡ hd .count = sym as-many ∙ r .1 .lengths in
-      and-true _ _ (true-holds (hd .count) _ (r .0))
+      true-both _ _ (true-holds (hd .count) _ (r .0))
       (values-complete hd (valuePart bytes c) facts small (all-of .value-long) below-values (subst (ValuesOf hd (valuePart bytes c)) (values-are n) (r .1)))
 
   column-held : accepted bytes c ≡ done (pairsIn bytes c) → isColumn bytes (hd .power) (pairsIn bytes c) ≡ true
@@ -117,8 +99,4 @@ module _ (bytes : List ℕ) (c : Opened) (u : Below 256 bytes) (opens : openColu
 
   -- the tests say what the definition says
   pub column-ok : columnOk bytes c ≡ isColumn bytes (hd .power) (pairsIn bytes c)
-  column-ok = same-truth _ _ (λ t. column-held (taken t .accepted)) taken-back
-
-  -- so whatever the code's test took holds its pairs
-  pub taken-from : isColumn bytes (hd .power) (pairsIn bytes c) ≡ true → Taken bytes c
-  taken-from t = taken (taken-back t)
+  column-ok = same-truth _ _ (λ t. column-held (taken t)) taken-back

@@ -5,13 +5,13 @@ ghost use Rattle.format.specs.Opening.{openColumn};
 ghost use Rattle.format.specs.Check.{pairsIn, isColumn, check};
 ghost use Rattle.format.specs.Replies.{replyOf};
 ghost use Rattle.column.specs.Opened.{columnOf};
-ghost use Rattle.column.specs.Facts.{HeadFacts};
+ghost use Rattle.format.specs.Rules.{HeadFacts};
 ghost use Rattle.checking.specs.Tests.{idsOk};
 use column::Column;
 use column::Opened;
 use format::Refusal;
 use format::Reply;
-use section_check::Judged;
+use section_check::Verdict;
 
 // Whether an id section is judged to hold the header's count of ids.
 fn ids_ok(section: &[u8], c: Column) -> bool
@@ -21,8 +21,8 @@ fn ids_ok(section: &[u8], c: Column) -> bool
     let p = numbers::size(c.power);
     let j = numbers::size(c.jump_count);
     match section_check::judge(section, p, j) {
-        Judged::Accepted(n) => n == c.count,
-        Judged::Faulty(_, _) => false,
+        Verdict::Accepted(n) => n == c.count,
+        Verdict::Faulty(_, _) => false,
     }
 }
 

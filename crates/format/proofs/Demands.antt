@@ -24,7 +24,9 @@ use Rattle.format.proofs.Header.{read-number}
 use Rattle.format.proofs.Minimal as Minimal
 use Rattle.format.proofs.RoundTrip as RoundTrip
 use Rattle.format.proofs.RoundTrip.{the-column, h}
-use Rattle.format.proofs.Unique.{result, needed, both-true, passed, accepted-is, opened-as, opened-ok, its-count}
+use Rattle.format.proofs.Tests.{result, needed, both-true, passed}
+use Rattle.format.proofs.Open.{opened-ok}
+use Rattle.format.proofs.Unique.{accepted-is, opened-as, its-count}
 use Rattle.format.proofs.Unique as Unique
 use Rattle.format.proofs.Walked as Walked
 use Rattle.format.proofs.Words.{words-le, few-words, listed-at, listed-each}

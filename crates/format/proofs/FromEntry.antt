@@ -2,13 +2,12 @@
 use mathlib.Core.Path.{_≡_, refl, sym, ap, _∙_, subst}
 use mathlib.Core.Bool.{Bool, true, false, cond, not, _||_}
 use mathlib.Core.List.{List, [], _∷_, _++_, append-assoc}
-use Prim.Native.Nat.{ℕ, zero, suc, _+_, _-_, _*_, _/_, _%_, _^_, _<_, _≤_}
+use Prim.Native.Nat.{ℕ, zero, suc, _+_, _-_, _*_, _/_, _%_, _<_, _≤_}
 use native.Mathlib.Omega.{arith}
 use lib.Dec.{eqb, leb}
 use lib.IntN.{ℤ, pos}
-use lib.Signed.{mag}
 use lib.ListN.{length, getD, drop, List·getD-map}
-use borrow.Author.Tests.{eq-eqb, ne-eqb, le-leb, lt-ltb}
+use borrow.Author.Tests.{eq-eqb, ne-eqb, le-leb}
 use Rattle.format.specs.Refusals.{Outcome, done, need}
 use Rattle.format.specs.Bytes.{bytesOf}
 use Rattle.format.specs.Ids.{Run, runs, idSection, jumps, blocks, blockOf, blockBytes, endBlock, entryBytes, countBelow, kindOf, byKind}
@@ -18,14 +17,15 @@ use Rattle.format.specs.Column.{column, headOf}
 use Rattle.format.specs.Opening.{Opened, valueIn, valueOf}
 use Rattle.format.specs.LookUp.{Look, found, absent, inside, nowhere, placeAt, answer, fromEntry}
 use Rattle.format.specs.Walk.{listed}
-use Rattle.format.proofs.Cases.{equal-or, or-true}
-use Rattle.format.proofs.Section.{totalBytes}
-use Rattle.format.proofs.Blocks.{Fine}
+use Rattle.format.specs.Runs.{Fine, totalBytes}
+use Rattle.format.proofs.Cases.{equal-or}
+use Rattle.format.proofs.Tests.{or-right}
 use Rattle.format.proofs.Runs.{ids-runs}
 use Rattle.format.proofs.Jumps.{idsUnder, bytesUnder}
 use Rattle.format.proofs.Find.{placesOf, count-lt}
 use Rattle.format.proofs.Place.{wordsIn, place-is}
-use Rattle.format.proofs.Skip.{fromB, skip, First, View, view, number-read, count-read, data-read, end-read}
+use Rattle.format.proofs.Skip.{fromB, skip, First, View, view}
+use Rattle.format.proofs.Standing.{number-read, count-read, data-read, end-read}
 use Rattle.format.proofs.Bits.{fetched-is}
 use Rattle.format.proofs.RoundTrip.{xs, h, the-column, ids-part, values-part, blocks-asc, blocks-fine, section-is, numbers-back, the-values, power-le, power-ge}
 
@@ -41,7 +41,7 @@ each-at P (v ∷ vs) (suc i) d t k = each-at P vs i d (t .1) (omega arith)
 
 fit-test : (v : ℤ) → Fits v → fits64 v ≡ true
 unfolding Fits
-fit-test v k = lt-ltb (mag v) (2 ^ 63) k
+fit-test v k = k
 
 block-ge : (p c : ℕ) → 4 ≤ blockBytes p c
 unfolding blockBytes
@@ -136,7 +136,7 @@ module _ (p : ℕ) (ids : List ℕ) (vs : List ℤ) (ok : Valid p ids vs) where
     at-first g back f e =
         at-run g (bytesOf (blockOf p) back ++ (endBlock ++ bytesOf entryBytes (jumps p ids))) (idsUnder (id / 65536) (runs ids)) (bytesUnder p (id / 65536) (runs ids))
         here (f .fine) (f .its-end) (subst (λ (l : List ℕ). idsUnder (id / 65536) (runs ids) + length (g .places) ≤ length l) (ids-runs ids) (f .its-ids))
-        (or-true (eqb (length (jumps p ids)) 0) (leb (id / 65536) (g .block)) (le-leb (id / 65536) (g .block) (f .from)))
+        (or-right (eqb (length (jumps p ids)) 0) (leb (id / 65536) (g .block)) (le-leb (id / 65536) (g .block) (f .from)))
         ∙ equal-or (g .block) (id / 65536) same other
       where
         here : drop (bytesUnder p (id / 65536) (runs ids)) (idSection p ids) ≡ blockOf p g ++ (bytesOf (blockOf p) back ++ (endBlock ++ bytesOf entryBytes (jumps p ids)))
@@ -180,7 +180,7 @@ module _ (p : ℕ) (ids : List ℕ) (vs : List ℤ) (ok : Valid p ids vs) where
           ids-part p ids vs ok,
           end-read (idSection p ids) (bytesUnder p (id / 65536) (runs ids)) (bytesOf entryBytes (jumps p ids)) here,
           le-leb (bytesUnder p (id / 65536) (runs ids) + 4) (length (idSection p ids) - 8 * length (jumps p ids)) (omega (arith, v .1)),
-          or-true (eqb (length (jumps p ids)) 0) (leb (id / 65536) 32767) (le-leb (id / 65536) 32767 (omega arith)),
+          or-right (eqb (length (jumps p ids)) 0) (leb (id / 65536) 32767) (le-leb (id / 65536) 32767 (omega arith)),
           ne-eqb 32767 (id / 65536) (λ k. omega arith),
           none-there (v .0),
         )

@@ -7,6 +7,9 @@ pub mod PinsSteps
 pub mod Demands
 pub mod Meaning
 pub mod Cases
+pub mod Tests
+pub mod Rules
+pub mod Stores
 pub mod Digits
 pub mod Runs
 pub mod Bits
@@ -14,11 +17,15 @@ pub mod Section
 pub mod Header
 pub mod Minimal
 pub mod Places
+pub mod SetBits
 pub mod Blocks
+pub mod Gcd
 pub mod Values
+pub mod Fits
 pub mod Jumps
 pub mod Bounds
 pub mod Sizes
+pub mod Standing
 pub mod Open
 pub mod RoundTrip
 pub mod Unique

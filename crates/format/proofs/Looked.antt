@@ -17,14 +17,14 @@ use Rattle.format.specs.Pairs.{Valid}
 use Rattle.format.specs.Column.{column, headOf}
 use Rattle.format.specs.LookUp.{Look, found, absent, entryAt, fromEntry, steps, lookUp}
 use Rattle.format.specs.Walk.{inBlock, listed, words}
+use Rattle.format.specs.Runs.{AllFine, AscBlocks, endOf, totalBytes}
 use Rattle.format.proofs.Cases.{below-or, equal-or}
-use Rattle.format.proofs.Section.{totalBytes, length-blocks}
-use Rattle.format.proofs.Blocks.{AllFine}
-use Rattle.format.proofs.Runs.{ids-runs}
-use Rattle.format.proofs.Jumps.{AscBlocks, endOf, idsUnder, bytesUnder, length-jumps, entry-is, end-ge, none-under, no-bytes-under}
+use Rattle.format.proofs.Section.{length-blocks}
+use Rattle.format.proofs.Runs.{ids-runs, length-ids}
+use Rattle.format.proofs.Jumps.{idsUnder, bytesUnder, length-jumps, entry-is, end-ge, none-under, no-bytes-under}
 use Rattle.format.proofs.Find.{placesOf, count-runs, listed-runs, in-runs}
 use Rattle.format.proofs.Place.{wordsIn}
-use Rattle.format.proofs.Skip.{length-ids, under-same, bytes-same, beyond, under-le, bytes-under-le, ordinal-read, start-read}
+use Rattle.format.proofs.Skip.{under-same, bytes-same, beyond, under-le, bytes-under-le, ordinal-read, start-read}
 use Rattle.format.proofs.RoundTrip.{h, the-column, opened, ids-part, blocks-asc, blocks-fine, count-le, section-is, blocks-le}
 pub use Rattle.format.proofs.FromEntry.{value-is}
 unfoldable pub use Rattle.format.proofs.FromEntry.{answered, by-block}

@@ -3,35 +3,37 @@
 use mathlib.Core.Path.{_≡_, refl, sym, ap, ap₂, _∙_, subst}
 use mathlib.Core.Bool.{Bool, true, false, cond, not}
 use mathlib.Core.List.{List, [], _∷_, append-nil}
-use Prim.Native.Nat.{ℕ, zero, suc, _+_, _-_, _*_, _/_, _%_, _^_, _<_, _≤_, _∣_}
-use native.Mathlib.Nat.{dvd-zero, dvd-mod-iff, mod-lt, zero-lt-suc, zero-add, add-zero, zero-div, zero-mod, mul-le-mul-right, suc-mul}
+use Prim.Native.Nat.{ℕ, suc, _+_, _-_, _*_, _/_, _%_, _^_, _<_, _≤_, _∣_}
+use native.Mathlib.Nat.{dvd-zero, mod-lt, zero-lt-suc, zero-add, add-zero, mul-le-mul-right, suc-mul}
 use native.Mathlib.Omega.{arith}
 use lib.Dec.{T}
 use lib.IntN.{ℤ, pos, natAbs, _+ℤ_, +ℤ-invr, +ℤ-idr}
 use lib.Signed.{leZ}
-use lib.ListN.{length, getD, drop, List·getD-eq-default}
+use lib.ListN.{length, getD, drop}
 use lib.Pow.{pow-add, pow-pos}
 use lib.Arith.{digits-div, digits-mod}
 use borrow.Author.Tests.{eq-eqb, ne-eqb, lt-ltb, le-ltb, eqb-true, eqb-false}
 use Rattle.format.specs.Limits.{blockPlaces, maxPower, maxId}
 use Rattle.format.specs.Bytes.{low, lowAt, highAt, bytesOf}
-use Rattle.format.specs.Bits.{bitOf, bitAt, bitBytes, packed, fetched}
+use Rattle.format.specs.Bits.{bitOf, bitAt, packed, fetched}
 use Rattle.format.specs.Ids.{Run, Entry, runs, push, blockOf, blocks, bitmap, countBelow, rankTable, jumpsFrom}
 use Rattle.format.specs.IdsRead.{idsOf}
-use Rattle.format.specs.Values.{smallest, greatest, over, spread, gcdIn, gcd, gcdOf, divisor, bitsIn, bitLength, width}
+use Rattle.format.specs.Values.{smallest, greatest, over, spread, gcdOf, divisor, bitsIn, bitLength, width}
 use Rattle.format.specs.Pairs.{Asc, Below, Each}
 use Rattle.format.specs.Walk.{listed}
+use Rattle.format.specs.Runs.{AscBlocks, endOf}
 use Rattle.format.proofs.Cases.{below-or, equal-or}
 use Rattle.format.proofs.Values as Values
-use Rattle.format.proofs.Values.{each-map, smallest-each, smallest-has, most-has, greatest-each, spread-each, over-back, gcdOf-each, bit-length, bit-length-le}
-use Rattle.format.proofs.Bits.{bit-tabulate, bit-lt, bit-past, length-packed, fetched-packed}
+use Rattle.format.proofs.Values.{each-map, smallest-each, smallest-has, most-has, greatest-each, spread-each, over-back, bit-length, bit-length-le}
+use Rattle.format.proofs.Gcd.{gcdOf-each, dvd-gcdOf}
+use Rattle.format.proofs.Bits.{bits-packed, spare-packed, fetched-packed}
 use Rattle.format.proofs.Ones.{occurs, bit-is, count-zero}
 use Rattle.format.proofs.Dense.{bit-at, rank-at}
 use Rattle.format.proofs.Find.{occurs-listed, placesOf, count-runs}
 use Rattle.format.proofs.Place.{count-higher}
 use Rattle.format.proofs.Section.{length-blocks}
 use Rattle.format.proofs.Runs.{ids-runs, fine-runs}
-use Rattle.format.proofs.Jumps.{AscBlocks, asc-blocks, endOf, idsUnder, bytesUnder, length-jumps, entry-is}
+use Rattle.format.proofs.Jumps.{asc-blocks, idsUnder, bytesUnder, length-jumps, entry-is}
 use Rattle.format.proofs.Skip.{fromB, skip, bytes-under-le}
 
 -- ---- smallest and greatest
@@ -63,25 +65,12 @@ greatest-among v vs = greatest-has (λ x. Among x (v ∷ vs)) v vs (each-among (
 
 -- ---- the divisor
 
-gcd-great : (d f a b : ℕ) → b < f → d ∣ a → d ∣ b → d ∣ gcdIn f a b
-unfolding gcdIn
-gcd-great d zero a b h p q = absurd (omega arith)
-gcd-great d (suc f) a zero h p q = p
-gcd-great d (suc f) a (suc b) h p q =
-    gcd-great d f (suc b) (a % suc b) (omega (arith, mod-lt a (zero-lt-suc b))) q (dvd-mod-iff d q .1 p)
-
-gcdOf-great : (d g : ℕ) (vs : List ℤ) → d ∣ g → Each (λ v. d ∣ natAbs v) vs → d ∣ gcdOf g vs
-unfolding gcdOf gcd
-gcdOf-great d g [] p t = p
-gcdOf-great d g (v ∷ vs) p t =
-    gcdOf-great d (gcd g (natAbs v)) vs (gcd-great d (suc (natAbs v)) g (natAbs v) (omega arith) p (t .0)) (t .1)
-
 -- `gcdOf 0 vs` divides each value without its sign, and each number that does so divides it
 pub divides-all : (vs : List ℤ) → Each (λ v. gcdOf 0 vs ∣ natAbs v) vs
 divides-all = gcdOf-each 0
 
 pub divided-by-all : (vs : List ℤ) (d : ℕ) → Each (λ v. d ∣ natAbs v) vs → d ∣ gcdOf 0 vs
-divided-by-all vs d t = gcdOf-great d 0 vs (dvd-zero d) t
+divided-by-all vs d t = dvd-gcdOf d 0 vs (dvd-zero d) t
 
 -- all values are equal exactly if max - min is 0
 abbrev pub AllEqual : List ℤ → Type 0
@@ -136,21 +125,11 @@ bit-place w xs i k h = rw (digits-div i h, digits-mod i h)
 
 -- the bytes hold these bits
 pub packed-bits : (w : ℕ) (xs : List ℕ) (j : ℕ) → j < 8 * length (packed w xs) → bitAt (packed w xs) j ≡ bitOf w xs j
-unfolding packed bitAt bitOf
-packed-bits w xs j h =
-    bit-tabulate (bitOf w xs) (bit-lt w xs) 8 (bitBytes (length xs * w)) j (omega (arith, length-packed w xs))
+packed-bits = bits-packed
 
 -- spare bits are 0
 pub packed-spare : (w : ℕ) (xs : List ℕ) (j : ℕ) → length xs * w ≤ j → bitAt (packed w xs) j ≡ 0
-unfolding bitAt
-packed-spare w xs j h =
-    below-or j (8 * length (packed w xs))
-    (λ l. packed-bits w xs j l ∙ bit-past w xs j (some-width w (omega (arith, length-packed w xs))) h)
-    (λ l. rw (List·getD-eq-default (packed w xs) 0 {n = j / 8} (omega arith), zero-div, zero-mod))
-  where
-    some-width : (w : ℕ) → 0 < (length xs * w + 7) / 8 → 0 < w
-    some-width zero l = absurd (omega arith)
-    some-width (suc w) l = omega arith
+packed-spare = spare-packed
 
 -- and number i is fetched
 pub packed-number : (w : ℕ) (xs : List ℕ) (i : ℕ) → i < length xs → getD xs i 0 < 2 ^ w → fetched (packed w xs) w i ≡ getD xs i 0

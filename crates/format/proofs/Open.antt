@@ -1,5 +1,5 @@
 -- A column's header, opened. Assumes nothing.
-use mathlib.Core.Path.{_≡_, sym, ap, _∙_}
+use mathlib.Core.Path.{_≡_, sym, ap, _∙_, subst}
 use mathlib.Core.Bool.{true}
 use mathlib.Core.List.{List, [], _∷_, _++_, append-assoc}
 use Prim.Native.Nat.{ℕ, _+_, _^_}
@@ -8,13 +8,16 @@ use native.Mathlib.Omega.{arith}
 use lib.Dec.{lit<}
 use lib.ListN.{length, take, drop, length-append}
 use lib.Seq.{drop-append-seam, take-at, drop-at, drop-drop}
-use borrow.Author.Tests.{eq-eqb}
+use borrow.Author.Tests.{eq-eqb, eqb-true}
 use Rattle.format.specs.Refusals.{done, andThen, need}
 use Rattle.format.specs.Bytes.{bytesOf}
 use Rattle.format.specs.HeaderNumbers.{number}
 use Rattle.format.specs.Pairs.{Below}
 use Rattle.format.specs.Column.{Head, headNumbers}
-use Rattle.format.specs.Opening.{numberAt, numbersAt, headFrom, headOk, Opened, openColumn, idPart, valuePart}
+use Rattle.format.specs.Opening.{numberAt, numbersAt, headFrom, headOk, Opened, lengthOk, openColumn, idPart, valuePart}
+use Rattle.format.specs.Rules.{Sound}
+use Rattle.format.proofs.Tests.{result, needed, passed}
+use Rattle.format.proofs.Rules.{head-facts}
 use Rattle.format.proofs.Header.{number-at, numbers-at}
 
 -- the numbers after the edition
@@ -66,3 +69,21 @@ module _ (h : Head) (is xs : List ℕ) where
     value-part =
         sym (drop-drop (h .idBytes) (length (bytesOf number (headNumbers h))) headed)
         ∙ ap (drop (h .idBytes)) (drop-append-seam (bytesOf number (headNumbers h)) (is ++ xs)) ∙ drop-at is xs (h .idBytes) hi
+
+-- ---- what was opened
+
+-- what is opened has a header that breaks no rule, and its length
+pub opened-ok : (bytes : List ℕ) (c : Opened) → openColumn bytes ≡ done c → (headOk (c .head) ≡ true) × (lengthOk bytes c ≡ true)
+unfolding openColumn
+opened-ok bytes c e =
+    let s1 = passed _ _ c e in
+    let s2 = needed _ _ _ _ c (s1 .2) in
+    let s3 = passed _ _ c (s2 .1) in
+    let s4 = needed _ _ _ _ c (s3 .2) in
+    let s5 = needed _ _ _ _ c (s4 .1) in
+    subst (λ (c : Opened). (headOk (c .head) ≡ true) × (lengthOk bytes c ≡ true)) (ap (result c) (s5 .1)) (s4 .0, s5 .0)
+
+pub sound : (bytes : List ℕ) (c : Opened) → openColumn bytes ≡ done c → Sound bytes c
+sound bytes c e =
+    let k = opened-ok bytes c e in
+    record { rules = k .0; facts = head-facts (c .head) (k .0); whole = eqb-true _ _ (k .1) }

@@ -1,20 +1,19 @@
 -- The column of a pair list is opened, read back to that list, and passes the check. Assumes nothing.
 use mathlib.Core.Path.{_≡_, refl, sym, ap, _∙_}
-use mathlib.Core.Bool.{Bool, true, false, _&&_, _||_}
+use mathlib.Core.Bool.{true, false}
 use mathlib.Core.List.{List, [], _∷_, map}
 use mathlib.Core.Option.{none}
-use Prim.Native.Nat.{ℕ, suc, _+_, _*_, _/_, _%_, _^_, _<_, _≤_, zero-le}
+use Prim.Native.Nat.{ℕ, suc, _+_, _*_, _^_, _<_, _≤_, zero-le}
 use native.Mathlib.Nat.{mul-le-mul-left, le-refl}
 use native.Mathlib.Omega.{arith}
 use lib.Dec.{eqb, leb}
-use lib.IntN.{ℤ, pos, negsuc}
-use lib.Signed.{mag}
+use lib.IntN.{ℤ}
 use lib.ListN.{length, length-map}
-use borrow.Author.Tests.{eq-eqb, le-leb, lt-leb, lt-ltb, leb-true, eqb-true}
+use borrow.Author.Tests.{eq-eqb, eqb-false, le-leb, lt-leb, lt-ltb}
 use Rattle.format.specs.Limits.{powerOk}
 use Rattle.format.specs.Refusals.{done, refused, andThen, need, needNone, ROOM}
 use Rattle.format.specs.Bytes.{bytesOf, same}
-use Rattle.format.specs.HeaderNumbers.{zigzag, unzigzag}
+use Rattle.format.specs.HeaderNumbers.{zigzag}
 use Rattle.format.specs.Bits.{packedBytes, packed, unpacked}
 use Rattle.format.specs.Ids.{Run, runs, idSection, jumps, blocks, blockBytes, entryBytes}
 use Rattle.format.specs.IdsRead.{readRuns, idsOf}
@@ -24,52 +23,26 @@ use Rattle.format.specs.Column.{Head, headOf, column}
 use Rattle.format.specs.Writer.{notAbove, orderFault, rangeFault, write}
 use Rattle.format.specs.Opening.{headOk, Opened, openColumn, idPart, valuePart, valueIn}
 use Rattle.format.specs.Check.{pairsIn, allFit, isDone, isColumn, accepted, check, reading}
+use Rattle.format.specs.Runs.{AllFine, AscBlocks, totalBytes}
 use Rattle.format.proofs.Places.{asc-length}
-use Rattle.format.proofs.Section.{totalBytes, length-idSection, length-blocks}
-use Rattle.format.proofs.Blocks.{AllFine, read-runs}
+use Rattle.format.proofs.Section.{length-idSection, length-blocks}
+use Rattle.format.proofs.Blocks.{read-runs}
 use Rattle.format.proofs.Runs.{ids-runs, fine-runs}
-use Rattle.format.proofs.Jumps.{AscBlocks, asc-blocks}
+use Rattle.format.proofs.Jumps.{asc-blocks}
 use Rattle.format.proofs.Bits.{length-packed, unpacked-packed}
 use Rattle.format.proofs.Values.{values-back, stored-below}
+use Rattle.format.proofs.Fits.{unzigzag-zigzag}
 use Rattle.format.proofs.Bounds.{rank-le, total-le, end-le, jumps-le, width-le, zig-lt, divisor-is}
+use Rattle.format.proofs.Rules.{power-fact}
 use Rattle.format.proofs.Open.{headed, openedAs, opened-is, id-part, value-part}
 
 -- ---- the power
 
 pub power-le : (p : ℕ) → powerOk p ≡ true → p ≤ 15
-power-le p h = go (eqb p 0) refl h
-  where
-    go2 : (b : Bool) → leb p 15 ≡ b → leb 7 p && b ≡ true → p ≤ 15
-    go2 true e k = leb-true p 15 e
-    go2 false e k = absurd (cc-false (leb 7 p) k)
-      where
-        cc-false : (q : Bool) → q && false ≡ true → ⊥
-        cc-false true k = let z : _≡_ {A = ℕ} 0 1 = cc in omega arith
-        cc-false false k = let z : _≡_ {A = ℕ} 0 1 = cc in omega arith
-
-    go : (q : Bool) → eqb p 0 ≡ q → q || (leb 7 p && leb p 15) ≡ true → p ≤ 15
-    go true e k = omega (arith, eqb-true p 0 e)
-    go false e k = go2 (leb p 15) refl k
+power-le p h = power-fact p h .most
 
 pub power-ge : (p : ℕ) → powerOk p ≡ true → eqb p 0 ≡ false → 7 ≤ p
-power-ge p h e = leb-true 7 p (go (eqb p 0) (leb 7 p) (leb p 15) e h)
-  where
-    go : (q a b : Bool) → q ≡ false → q || (a && b) ≡ true → a ≡ true
-    go true a b e k = cc
-    go false true b e k = refl
-    go false false b e k = k
-
--- ---- zigzag and unzigzag
-
-zag-zig : (z : ℤ) → unzigzag (zigzag z) ≡ z
-zag-zig (pos n) =
-    let e : 2 * n % 2 ≡ 0 = omega arith in
-    let f : 2 * n / 2 ≡ n = omega arith in
-    rw (e, f)
-zag-zig (negsuc n) =
-    let e : (2 * n + 1) % 2 ≡ 1 = omega arith in
-    let f : (2 * n + 1) / 2 ≡ n = omega arith in
-    rw (e, f)
+power-ge p h e = power-fact p h .least (eqb-false p 0 e)
 
 -- ---- what the writer takes
 
@@ -96,7 +69,7 @@ same-refl (x ∷ xs) = rw (eq-eqb x x refl) (same-refl xs)
 pub all-fit : (vs : List ℤ) → Each Fits vs → allFit vs ≡ true
 unfolding allFit Fits
 all-fit [] t = refl
-all-fit (v ∷ vs) t = rw (lt-ltb (mag v) (2 ^ 63) (t .0)) (all-fit vs (t .1))
+all-fit (v ∷ vs) t = rw (t .0) (all-fit vs (t .1))
 
 pub runs-le : (p : ℕ) (gs : List Run) → length gs ≤ totalBytes p gs
 unfolding totalBytes blockBytes
@@ -209,7 +182,7 @@ module _ (p : ℕ) (ids : List ℕ) (vs : List ℤ) (ok : Valid p ids vs) where
 
   pub the-values : map (valueIn h) (stored vs) ≡ vs
   unfolding valueIn headOf h
-  the-values = ap (λ (z : ℤ). map (valueAt z (divisor vs)) (stored vs)) (zag-zig (smallest vs)) ∙ values-back vs
+  the-values = ap (λ (z : ℤ). map (valueAt z (divisor vs)) (stored vs)) (unzigzag-zigzag (smallest vs)) ∙ values-back vs
 
   pub pairs-back : pairsIn (column p ids vs) the-column ≡ record { ids = ids; values = vs }
   unfolding pairsIn the-column headOf h is xs column

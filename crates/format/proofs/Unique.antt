@@ -1,51 +1,25 @@
 -- What the check accepts is the column of the list that the reading gives, and of no other. Assumes nothing.
 use mathlib.Core.Path.{_≡_, refl, sym, ap, ap₂, _∙_, subst}
-use mathlib.Core.Bool.{Bool, true, false, cond, _&&_}
+use mathlib.Core.Bool.{Bool, true, false, cond}
 use mathlib.Core.List.{List, [], _∷_}
-use mathlib.Core.Option.{Option, none, some}
-use Prim.Native.Nat.{ℕ, suc, _^_, zero-le}
+use mathlib.Core.Option.{none, some}
+use Prim.Native.Nat.{ℕ, suc, zero-le}
 use native.Mathlib.Omega.{arith}
 use lib.Dec.{eqb, leb, ltb}
 use lib.IntN.{ℤ}
-use lib.Signed.{mag}
 use lib.ListN.{length}
 use borrow.Author.Tests.{leb-true, eqb-true, ltb-true}
 use Rattle.format.specs.Limits.{maxId}
-use Rattle.format.specs.Refusals.{Outcome, done, refused, andThen, need, needNone}
+use Rattle.format.specs.Refusals.{Outcome, done, refused}
 use Rattle.format.specs.Bytes.{same}
 use Rattle.format.specs.Values.{fits64}
 use Rattle.format.specs.Pairs.{Pairs, Below, Asc, Each, Fits, Valid}
 use Rattle.format.specs.Column.{column, headOf}
 use Rattle.format.specs.Writer.{notAbove, orderFault, rangeFault, write}
-use Rattle.format.specs.Opening.{Opened, headOk, lengthOk, openColumn}
+use Rattle.format.specs.Opening.{Opened, openColumn}
 use Rattle.format.specs.Check.{pairsIn, allFit, isDone, isColumn, accepted}
+use Rattle.format.proofs.Tests.{result, needed, needed-none, both-true}
 use Rattle.format.proofs.RoundTrip.{h, the-column, opened, pairs-back}
-
--- ---- a step that was passed
-
-module _ {A : Type 0} where
-  abbrev pub result : A → Outcome A → A
-  result d (done a) = a
-  result d (refused why w) = d
-
-  pub needed : (t : Bool) (why w : ℕ) (next : Outcome A) (a : A) → need t why w next ≡ done a → (t ≡ true) × (next ≡ done a)
-  unfolding need
-  needed true why w next a e = (refl, e)
-  needed false why w next a e = absurd (let z : _≡_ {A = ℕ} 0 1 = cc in omega arith)
-
-  pub needed-none : (o : Option ℕ) (why : ℕ) (next : Outcome A) (a : A) → needNone o why next ≡ done a → (o ≡ none) × (next ≡ done a)
-  unfolding needNone
-  needed-none none why next a e = (refl, e)
-  needed-none (some i) why next a e = absurd (let z : _≡_ {A = ℕ} 0 1 = cc in omega arith)
-
-pub passed : {A B : Type 0} (o : Outcome A) (f : A → Outcome B) (b : B) → andThen o f ≡ done b → (a : A) × (o ≡ done a) × (f a ≡ done b)
-unfolding andThen
-passed (done a) f b e = (a, refl, e)
-passed (refused why w) f b e = absurd (let z : _≡_ {A = ℕ} 0 1 = cc in omega arith)
-
-pub both-true : (a b : Bool) → a && b ≡ true → (a ≡ true) × (b ≡ true)
-both-true true b e = (refl, e)
-both-true false b e = absurd (let z : _≡_ {A = ℕ} 0 1 = cc in omega arith)
 
 pub same-eq : (l m : List ℕ) → same l m ≡ true → l ≡ m
 unfolding same
@@ -85,7 +59,7 @@ unfolding allFit Fits
 fitting [] e = tt
 fitting (v ∷ vs) e =
     let b : (fits64 v ≡ true) × (allFit vs ≡ true) = both-true (fits64 v) (allFit vs) e in
-    (ltb-true (mag v) (2 ^ 63) (b .0), fitting vs (b .1))
+    (b .0, fitting vs (b .1))
 
 is-done : (o : Outcome (List ℕ)) (bytes : List ℕ) → isDone o bytes ≡ true → o ≡ done bytes
 unfolding isDone
@@ -130,17 +104,6 @@ unfolding the-column headOf h
 its-count bytes c q o a =
     let s = accepted-is bytes c q a in
     ap (λ (c : Opened). c .head .count) (opened-as bytes c (c .head .power) (q .ids) (q .values) (s .0) o (s .1))
-
--- what is opened has a header that breaks no rule, and its length
-pub opened-ok : (bytes : List ℕ) (c : Opened) → openColumn bytes ≡ done c → (headOk (c .head) ≡ true) × (lengthOk bytes c ≡ true)
-unfolding openColumn
-opened-ok bytes c e =
-    let s1 = passed _ _ c e in
-    let s2 = needed _ _ _ _ c (s1 .2) in
-    let s3 = passed _ _ c (s2 .1) in
-    let s4 = needed _ _ _ _ c (s3 .2) in
-    let s5 = needed _ _ _ _ c (s4 .1) in
-    subst (λ (c : Opened). (headOk (c .head) ≡ true) × (lengthOk bytes c ≡ true)) (ap (result c) (s5 .1)) (s4 .0, s5 .0)
 
 -- there is just one list
 pub one-list : (p p′ : ℕ) (ids ids′ : List ℕ) (vs vs′ : List ℤ) → Valid p ids vs → Valid p′ ids′ vs′ → column p ids vs ≡ column p′ ids′ vs′

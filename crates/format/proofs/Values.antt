@@ -2,16 +2,18 @@
 use mathlib.Core.Path.{_≡_, refl, sym, ap, ap₂, _∙_, subst}
 use mathlib.Core.Bool.{Bool, true, false, cond, not}
 use mathlib.Core.List.{List, [], _∷_, map}
-use Prim.Native.Nat.{ℕ, zero, suc, _+_, _-_, _/_, _%_, _^_, _<_, _≤_, _∣_, zero-le, suc-le-suc}
-use native.Mathlib.Nat.{dvd-refl, dvd-zero, dvd-trans, dvd-add, dvd-sub, dvd-mod-iff, one-dvd, mul-div-cancel', mod-lt, zero-lt-suc, le-trans, pow-zero, pow-succ', add-comm, lt-of-le-of-lt, le-div-iff-mul-le, div-mul-le-self}
+use Prim.Native.Nat.{ℕ, zero, suc, _+_, _-_, _/_, _^_, _<_, _≤_, _∣_, zero-le, suc-le-suc}
+use native.Mathlib.Nat.{dvd-zero, dvd-add, dvd-sub, one-dvd, mul-div-cancel', le-trans, pow-zero, pow-succ', add-comm, lt-of-le-of-lt}
+use native.Mathlib.Nat.{le-div-iff-mul-le, div-mul-le-self}
 use native.Mathlib.Omega.{arith}
 use lib.Dec.{T, eqb, leb→le, le→leb, nleb→lt, lit<}
 use lib.IntN.{ℤ, pos, negsuc, negℤ, natAbs, subℕ, _+ℤ_, _-ℤ_, +ℤ-comm, -ℤ-+ℤ-cancel, +ℤ-assoc, +ℤ-invl, +ℤ-idl}
 use lib.Signed.{leZ, nonNeg, pos-natAbs}
 use borrow.Author.Tests.{lt-ltb, le-ltb}
-use Rattle.format.specs.Values.{leastOf, mostOf, smallest, greatest, over, gcdIn, gcd, gcdOf, divisor, stored, valueAt, spread, bitsIn, bitLength, width}
+use Rattle.format.specs.Values.{leastOf, mostOf, smallest, greatest, over, gcdOf, divisor, stored, valueAt, spread, bitsIn, bitLength, width}
 use Rattle.format.specs.Pairs.{Below, Each}
 use Rattle.format.proofs.Cases.{below-or}
+use Rattle.format.proofs.Gcd.{gcdOf-each}
 
 -- ---- each of a list
 
@@ -112,29 +114,6 @@ pub over-back : (m v : ℤ) → T (leZ m v) → m +ℤ pos (over m v) ≡ v
 over-back m v h = ap (λ (z : ℤ). m +ℤ z) (pos-natAbs (v -ℤ m) (diff-nonNeg m v h)) ∙ +ℤ-comm m (v -ℤ m) ∙ -ℤ-+ℤ-cancel v m
 
 -- ---- the divisor
-
-gcd-divides : (f a b : ℕ) → b < f → (gcdIn f a b ∣ a) × (gcdIn f a b ∣ b)
-unfolding gcdIn
-gcd-divides zero a b h = absurd (omega arith)
-gcd-divides (suc f) a zero h = (dvd-refl a, dvd-zero a)
-gcd-divides (suc f) a (suc b) h =
-    let r : (gcdIn f (suc b) (a % suc b) ∣ suc b) × (gcdIn f (suc b) (a % suc b) ∣ a % suc b) =
-    gcd-divides f (suc b) (a % suc b) (omega (arith, mod-lt a (zero-lt-suc b))) in
-    (dvd-mod-iff (gcdIn f (suc b) (a % suc b)) (r .0) .0 (r .1), r .0)
-
-gcdOf-first : (g : ℕ) (vs : List ℤ) → gcdOf g vs ∣ g
-unfolding gcdOf gcd
-gcdOf-first g [] = dvd-refl g
-gcdOf-first g (v ∷ vs) =
-    dvd-trans (gcdOf (gcd g (natAbs v)) vs) (gcdOf-first (gcd g (natAbs v)) vs) (gcd-divides (suc (natAbs v)) g (natAbs v) (omega arith) .0)
-
-pub gcdOf-each : (g : ℕ) (vs : List ℤ) → Each (λ v. gcdOf g vs ∣ natAbs v) vs
-unfolding gcdOf gcd
-gcdOf-each g [] = tt
-gcdOf-each g (v ∷ vs) = (
-  dvd-trans (gcdOf (gcd g (natAbs v)) vs) (gcdOf-first (gcd g (natAbs v)) vs) (gcd-divides (suc (natAbs v)) g (natAbs v) (omega arith) .1),
-  gcdOf-each (gcd g (natAbs v)) vs,
-)
 
 dvd-subℕ : (d a b : ℕ) → d ∣ a → d ∣ b → d ∣ natAbs (subℕ a b)
 dvd-subℕ d a b ha hb =

@@ -19,15 +19,17 @@ use Rattle.format.specs.Column.{column, headOf}
 use Rattle.format.specs.Opening.{Opened, idPart, valueOf}
 use Rattle.format.specs.LookUp.{Look, found, absent, lookUp}
 use Rattle.format.specs.Walk.{listed, words, indexOf, seenOr, walkFrom, walk, Seen, seen, unseen, wordless, listAnswer}
+use Rattle.format.specs.Runs.{Fine, AllFine, AscBlocks}
 use Rattle.format.proofs.Cases.{below-or, equal-or}
 use Rattle.format.proofs.Section.{length-blockOf}
-use Rattle.format.proofs.Blocks.{Fine, AllFine, places-back}
-use Rattle.format.proofs.Jumps.{AscBlocks, idsUnder, none-under}
+use Rattle.format.proofs.Blocks.{places-back}
+use Rattle.format.proofs.Jumps.{idsUnder, none-under}
 use Rattle.format.proofs.Find.{placesOf, no-places, count-lt}
 use Rattle.format.proofs.Place.{listed-higher, count-higher}
-use Rattle.format.proofs.Skip.{number-read, count-read, data-read, end-read}
+use Rattle.format.proofs.Standing.{number-read, count-read, data-read, end-read}
 use Rattle.format.proofs.RoundTrip.{h, the-column, ids-part, blocks-asc, blocks-fine, section-is, power-le, runs-le}
-use Rattle.format.proofs.Looked.{value-is, the-count, the-test, by-list, looked}
+use Rattle.format.proofs.Looked.{the-count, the-test, by-list, looked}
+use Rattle.format.proofs.FromEntry.{value-is}
 
 index-is : (r i a : ℕ) (rs : List ℕ) → Asc a rs → indexOf r i rs ≡ cond (listed r rs) (some (i + countBelow r rs)) none
 unfolding indexOf listed countBelow

@@ -1,6 +1,6 @@
 -- A look-up counts no more words than a stride has, or a block without ranks: by the formula, and on any bytes. And a listed id stands
 -- at its ordinal. Assumes nothing.
-use mathlib.Core.Path.{_≡_, refl, ap, subst}
+use mathlib.Core.Path.{_≡_, refl, subst}
 use mathlib.Core.Bool.{Bool, true, false, cond, not, _&&_}
 use mathlib.Core.List.{List, [], _∷_}
 use Prim.Native.Nat.{ℕ, zero, suc, _+_, _-_, _*_, _/_, _%_, _^_, _<_, _≤_, zero-le}
@@ -11,21 +11,21 @@ use lib.Pow.{pow-pos}
 use lib.Count.{onesIn}
 use lib.ListN.{length, getD, drop}
 use borrow.Author.Tests.{eq-eqb, ne-eqb, lt-ltb, le-ltb}
-use Rattle.format.specs.Limits.{powerOk, maxCount, maxJumps, maxWidth, blockPlaces}
-use Rattle.format.specs.Refusals.{done, andThen, need, BROKEN}
+use Rattle.format.specs.Limits.{Power, blockPlaces}
+use Rattle.format.specs.Refusals.{Outcome, done, refused, andThen, need, BROKEN}
 use Rattle.format.specs.Bytes.{lowAt}
-use Rattle.format.specs.Bits.{packedBytes}
 use Rattle.format.specs.Ids.{Entry, Kind, sparse, dense, all, kindOf, byKind, rankBytes, blockBytes, countBelow}
 use Rattle.format.specs.IdsRead.{shorts}
 use Rattle.format.specs.Pairs.{Asc}
-use Rattle.format.specs.Column.{Head}
-use Rattle.format.specs.Opening.{Opened, openColumn, headOk, idPart}
-use Rattle.format.specs.LookUp.{Look, found, absent, Place, inside, nowhere, broken, scan, onesFrom, strideLong, strideRank, denseAt, placeAt, entriesAt, entryAt, answer, fromEntry, steps, lookUp}
-use Rattle.format.specs.Walk.{inBlock, listed, words, strideWords}
-use Rattle.format.proofs.Cases.{below-or, equal-or, or-true}
+use Rattle.format.specs.Opening.{Opened, openColumn, idPart}
+use Rattle.format.specs.LookUp.{Look, absent, Place, inside, nowhere, broken, scan, onesFrom, strideLong, strideRank, denseAt, placeAt}
+use Rattle.format.specs.LookUp.{entriesAt, entryAt, answer, fromEntry, steps, lookUp, lookUpIn}
+use Rattle.format.specs.Walk.{inBlock, listed, words, strideWords, FewWords}
+use Rattle.format.proofs.Cases.{below-or, equal-or}
 use Rattle.format.proofs.Place.{listed-higher, count-higher, stride-words}
-use Rattle.format.proofs.RoundTrip.{power-ge}
-use Rattle.format.proofs.Unique.{result, needed, both-true, opened-ok}
+use Rattle.format.proofs.Tests.{needed, or-right}
+use Rattle.format.proofs.Rules.{head-facts}
+use Rattle.format.proofs.Open.{opened-ok}
 
 -- ---- the formula
 
@@ -77,14 +77,9 @@ pub listed-each : (ids : List ℕ) (i : ℕ) → i < length ids → listed (getD
 unfolding listed
 listed-each [] i h = absurd (omega arith)
 listed-each (x ∷ xs) zero h = rw (eq-eqb x x refl)
-listed-each (x ∷ xs) (suc i) h = or-true (eqb x (getD xs i 0)) (listed (getD xs i 0) xs) (listed-each xs i (omega arith))
+listed-each (x ∷ xs) (suc i) h = or-right (eqb x (getD xs i 0)) (listed (getD xs i 0) xs) (listed-each xs i (omega arith))
 
 -- ---- on any bytes
-
--- the words of an answer: a stride's at most where an id is found, and 1 at most where it is not
-abbrev pub FewWords : ℕ → Look → Type 0
-FewWords m (found o v w) = w ≤ m
-FewWords m (absent w) = w ≤ 1
 
 abbrev Few : ℕ → Place → Type 0
 Few m (inside i w) = w ≤ m
@@ -124,20 +119,21 @@ place-few p s t c r hp hr = go (kindOf c)
     go dense = dense-few p s t c r hp hr
     go all = zero-le
 
-answer-few : (bytes : List ℕ) (c : Opened) (m o : ℕ) (q : Place) (l : Look) → Few m q → answer bytes c o q ≡ done l → FewWords m l
+answer-few : (bytes : List ℕ) (c : Opened) (p o : ℕ) (q : Place) (l : Look) → Few (strideWords p) q → answer bytes c o q ≡ done l → FewWords p (done l)
 unfolding answer
-answer-few bytes c m o (inside i w) l f e = subst (FewWords m) (ap (result l) (needed _ _ _ _ l e .1)) f
-answer-few bytes c m o (nowhere w) l f e = subst (FewWords m) (ap (result l) e) f
-answer-few bytes c m o broken l f e = absurd (let z : _≡_ {A = ℕ} 0 1 = cc in omega arith)
+answer-few bytes c p o (inside i w) l f e = subst (FewWords p) (needed _ _ _ _ l e .1) f
+answer-few bytes c p o (nowhere w) l f e = subst (FewWords p) e f
+answer-few bytes c p o broken l f e = absurd (let z : _≡_ {A = ℕ} 0 1 = cc in omega arith)
 
 -- from step 3 on
-module _ (bytes : List ℕ) (col : Opened) (o m : ℕ) (q : Place) (l : Look) where
-  rest-few : (other fits : Bool) → Few m q → cond other (done (absent 0)) (need fits BROKEN 0 (answer bytes col o q)) ≡ done l → FewWords m l
-  rest-few true fits f e = subst (FewWords m) (ap (result l) e) zero-le
-  rest-few false fits f e = answer-few bytes col m o q l f (needed fits BROKEN 0 (answer bytes col o q) l e .1)
+module _ (bytes : List ℕ) (col : Opened) (o p : ℕ) (q : Place) (l : Look) where
+  rest-few : (other fits : Bool) → Few (strideWords p) q → cond other (done (absent 0)) (need fits BROKEN 0 (answer bytes col o q)) ≡ done l
+      → FewWords p (done l)
+  rest-few true fits f e = subst (FewWords p) e zero-le
+  rest-few false fits f e = answer-few bytes col p o q l f (needed fits BROKEN 0 (answer bytes col o q) l e .1)
 
-pub steps-few : (bytes : List ℕ) (col : Opened) (id : ℕ) (l : Look) → powerOk (col .head .power) ≡ true → steps bytes col id ≡ done l
-    → FewWords (strideWords (col .head .power)) l
+steps-few : (bytes : List ℕ) (col : Opened) (id : ℕ) (l : Look) → Power (col .head .power) → steps bytes col id ≡ done l
+    → FewWords (col .head .power) (done l)
 unfolding steps fromEntry
 steps-few bytes col id l ok e =
     let p : ℕ = col .head .power in
@@ -147,22 +143,34 @@ steps-few bytes col id l ok e =
     let c : ℕ = lowAt 2 s (at .1 + 2) + 1 in
     let s2 = needed _ _ _ _ l e in
     let s3 = needed _ _ _ _ l (s2 .1) in
-    rest-few bytes col (at .0) (strideWords p) (placeAt p s (at .1 + 4) c (id % blockPlaces)) l (not (eqb k (id / blockPlaces)))
+    rest-few bytes col (at .0) p (placeAt p s (at .1 + 4) c (id % blockPlaces)) l (not (eqb k (id / blockPlaces)))
     (leb (at .1 + blockBytes p c) (entriesAt (col .head)) && leb (at .0 + c) (col .head .count))
-    (place-few p s (at .1 + 4) c (id % blockPlaces) (λ z. omega (arith, power-ge p ok (ne-eqb p 0 z))) (omega arith)) (s3 .1)
-
-pub head-power : (h : Head) → headOk h ≡ true → powerOk (h .power) ≡ true
-unfolding headOk
-head-power h e =
-    let rules = both-true _ (eqb (h .valueBytes) (packedBytes (h .count) (h .bits))) e in
-    let rules = both-true _ (leb (6 + 8 * h .jumpCount) (h .idBytes)) (rules .0) in
-    let rules = both-true _ (leb 1 (h .step)) (rules .0) in
-    let rules = both-true _ (leb (h .bits) maxWidth) (rules .0) in
-    let rules = both-true _ (leb (h .jumpCount) maxJumps) (rules .0) in
-    both-true (leb (h .count) maxCount) (powerOk (h .power)) (rules .0) .1
+    (place-few p s (at .1 + 4) c (id % blockPlaces) (λ z. omega (arith, ok .least z)) (omega arith)) (s3 .1)
 
 pub few-words : (bytes : List ℕ) (c : Opened) (id : ℕ) (l : Look) → openColumn bytes ≡ done c → lookUp bytes id ≡ done l
-    → FewWords (strideWords (c .head .power)) l
+    → FewWords (c .head .power) (done l)
 unfolding lookUp andThen
 few-words bytes c id l o e =
-    steps-few bytes c id l (head-power (c .head) (opened-ok bytes c o .0)) (rw o at (needed _ _ _ _ l e .1))
+    steps-few bytes c id l (head-facts (c .head) (opened-ok bytes c o .0) .power) (rw o at (needed _ _ _ _ l e .1))
+
+few-words-in : (bytes : List ℕ) (c : Opened) (id : ℕ) (l : Look) → lookUpIn bytes c id ≡ done l → FewWords (c .head .power) (done l)
+unfolding lookUpIn
+few-words-in bytes c id l e =
+    let s1 = needed _ _ _ _ l e in
+    let s2 = needed _ _ _ _ l (s1 .1) in
+    steps-few bytes c id l (head-facts (c .head) (s2 .0) .power) (needed _ _ _ _ l (s2 .1) .1)
+
+-- whatever the answer
+pub look-up-few : (bytes : List ℕ) (c : Opened) (id : ℕ) → openColumn bytes ≡ done c → FewWords (c .head .power) (lookUp bytes id)
+look-up-few bytes c id o = go (lookUp bytes id) refl
+  where
+    go : (r : Outcome Look) → lookUp bytes id ≡ r → FewWords (c .head .power) r
+    go (done l) e = few-words bytes c id l o e
+    go (refused why w) e = tt
+
+pub look-up-in-few : (bytes : List ℕ) (c : Opened) (id : ℕ) → FewWords (c .head .power) (lookUpIn bytes c id)
+look-up-in-few bytes c id = go (lookUpIn bytes c id) refl
+  where
+    go : (r : Outcome Look) → lookUpIn bytes c id ≡ r → FewWords (c .head .power) r
+    go (done l) e = few-words-in bytes c id l e
+    go (refused why w) e = tt

@@ -11,7 +11,10 @@ pub mod Pairs
 pub mod Column
 pub mod Writer
 pub mod Opening
+pub mod Rules
 pub mod Check
 pub mod LookUp
 pub mod Walk
 pub mod Replies
+pub mod Runs
+pub mod Stores

@@ -1,12 +1,13 @@
 -- Document 01, "The walk over all blocks, and the words": what demand 3 holds the look-up against. Assumes nothing.
-use Prim.Native.Nat.{ℕ, zero, suc, _+_, _-_, _/_, _%_, _^_}
+use Prim.Native.Nat.{ℕ, zero, suc, _+_, _-_, _/_, _%_, _^_, _≤_}
 use mathlib.Core.Bool.{Bool, false, cond, _||_}
 use mathlib.Core.List.{List, [], _∷_}
 use mathlib.Core.Option.{Option, none, some}
 use lib.ListN.{getD, drop}
 use lib.Dec.{eqb}
 use lib.IntN.{ℤ, pos}
-use Rattle.format.specs.Limits.{blockPlaces, endNumber}
+use Rattle.format.specs.Limits.{blockPlaces, bitmapLongs, endNumber}
+use Rattle.format.specs.Refusals.{Outcome, done, refused}
 use Rattle.format.specs.Bytes.{lowAt}
 use Rattle.format.specs.Ids.{kindOf, byKind, blockBytes, countBelow}
 use Rattle.format.specs.IdsRead.{placesIn}
@@ -70,7 +71,13 @@ words p ids id =
 
 -- the most words that a look-up counts: a stride's, or a block's without ranks
 unfoldable pub strideWords : ℕ → ℕ
-strideWords p = cond (eqb p 0) 1024 (2 ^ (p - 6))
+strideWords p = cond (eqb p 0) bitmapLongs (2 ^ (p - 6))
+
+-- an answer at rank power p has a stride's words at most where the id is found, and one at most where it is absent
+abbrev pub FewWords : ℕ → Outcome Look → Type 0
+FewWords p (done (found o v w)) = w ≤ strideWords p
+FewWords p (done (absent w)) = w ≤ 1
+FewWords p (refused why x) = Unit
 
 -- ---- the pair list's own answer
 

@@ -1,26 +1,27 @@
--- The blocks: those that the judge passes are the blocks of fine ascending runs, and it passes all such. Assumes nothing.
+-- The blocks: those that the judge passes are the blocks of fine ascending runs, and it passes all such. From the tests, by induction on the
+-- judge's own steps: each test that passed gives one field of the run. To the tests, by induction on the runs that stand there. Assumes nothing.
 use mathlib.Core.Path.{_≡_, refl, sym, ap, ap₂, _∙_}
 use mathlib.Core.Bool.{Bool, true, false, cond}
 use mathlib.Core.List.{List, [], _∷_, _++_, map, append-assoc}
 use Prim.Native.Nat.{ℕ, zero, suc, _+_, _-_, _*_, _<_, _≤_}
 use native.Mathlib.Nat.{add-assoc}
 use native.Mathlib.Omega.{arith}
-use lib.Dec.{eqb, lit<}
+use lib.Dec.{eqb}
 use lib.ListN.{length, take, drop, length-append, length-drop, take-append-drop, length-map}
-use lib.Seq.{drop-at, drop-drop}
+use lib.Seq.{drop-drop}
 use borrow.Author.Tests.{ne-eqb, leb-true, le-leb}
 use Rattle.format.specs.Refusals.{Outcome, done, need}
-use Rattle.format.specs.Bytes.{low, fromLow, fromDigits, bytesOf, same, lowAt}
+use Rattle.format.specs.Bytes.{low, fromLow, bytesOf, same, lowAt}
 use Rattle.format.specs.Ids.{Run, dataBytes, blockBytes, blockData, blockOf, endBlock}
 use Rattle.format.specs.IdsRead.{idsOf}
 use Rattle.format.specs.Pairs.{Below}
-use Rattle.format.proofs.Section.{totalBytes, length-blockOf}
-use Rattle.format.proofs.Blocks.{AllFine, the-number, the-count, the-data, count-fits}
-use Rattle.format.proofs.Jumps.{AscBlocks, endOf}
+use Rattle.format.specs.Runs.{totalBytes, AscBlocks, endOf}
+use Rattle.format.proofs.Tests.{result, needed, both-true}
 use Rattle.format.proofs.RoundTrip.{same-refl}
-use Rattle.format.proofs.Unique.{result, needed, both-true, same-eq}
+use Rattle.format.proofs.Unique.{same-eq}
 use Rattle.format.specs.Limits.{Power}
 use Rattle.format.proofs.Sizes.{block-total}
+use Rattle.format.proofs.Standing.{Stands, stands-long, ahead, end-number}
 use Rattle.judge.specs.Judge.{Ended, judgeEnd, judgeBlock, judgeFrom}
 use Rattle.judge.proofs.Parts.{below-drop, low-split, take-lt}
 use Rattle.judge.proofs.Held.{Held, held, Passed, passed}
@@ -28,7 +29,8 @@ use Rattle.judge.proofs.Held.{Held, held, Passed, passed}
 pub length-ids : (g : Run) (gs : List Run) → length (idsOf (g ∷ gs)) ≡ length (g .places) + length (idsOf gs)
 unfolding idsOf
 length-ids g gs =
-    length-append (map (λ r. g .block * 65536 + r) (g .places)) (idsOf gs) ∙ ap (λ (n : ℕ). n + length (idsOf gs)) (length-map (g .places) (λ r. g .block * 65536 + r))
+    length-append (map (λ r. g .block * 65536 + r) (g .places)) (idsOf gs)
+    ∙ ap (λ (n : ℕ). n + length (idsOf gs)) (length-map (g .places) (λ r. g .block * 65536 + r))
 
 no-ids : length (idsOf []) ≡ 0
 unfolding idsOf
@@ -37,35 +39,20 @@ no-ids = refl
 ended : (a o n : ℕ) (e : Ended) → a ≡ e .start → o ≡ e .count → n ≡ e .next → _≡_ {A = Ended} (record { start = a; count = o; next = n }) e
 ended a o n e p q r j = record { start = p j; count = q j; next = r j }
 
-pub block-shape : (p : ℕ) (g : Run) (rest : List ℕ) → blockOf p g ++ rest ≡ low 2 (g .block) ++ (low 2 (length (g .places) - 1) ++ (blockData p (g .places) ++ rest))
+block-shape : (p : ℕ) (g : Run) (rest : List ℕ)
+    → blockOf p g ++ rest ≡ low 2 (g .block) ++ (low 2 (length (g .places) - 1) ++ (blockData p (g .places) ++ rest))
 unfolding blockOf
 block-shape p g rest = simp append-assoc
-
-pub end-drop : (s : List ℕ) (at n : ℕ) (l : List ℕ) → drop at s ≡ l → n ≤ length l → zero < n → at + n ≤ length s
-end-drop s at n l e h k = omega (arith, length-drop at s, ap length e)
-
-six-long : (rest : List ℕ) → 6 ≤ length (endBlock ++ rest)
-unfolding endBlock
-six-long rest = omega arith
-
-pub the-end : (rest : List ℕ) → fromLow (take 2 (endBlock ++ rest)) ≡ 32767
-unfolding endBlock fromDigits
-the-end rest = refl
 
 six : (rest : List ℕ) → same (take 6 (endBlock ++ rest)) endBlock ≡ true
 unfolding endBlock
 six rest = same-refl (0xff ∷ 0x7f ∷ 0 ∷ 0 ∷ 0xff ∷ 0xff ∷ [])
 
-pub low-is : (s : List ℕ) (at : ℕ) (l : List ℕ) (k : ℕ) → drop at s ≡ l → fromLow (take 2 l) ≡ k → lowAt 2 s at ≡ k
-unfolding lowAt
-low-is s at l k e h = ap (λ (x : List ℕ). fromLow (take 2 x)) e ∙ h
-
 -- the blocks at a place, up to the end block
 pub record Built (p : ℕ) (s : List ℕ) (at o next : ℕ) (e : Ended) : Type 0 where
   pub gs : List Run
-  pub fine : AllFine gs
+  pub stands : Stands p s at gs (drop (e .start + 6) s)
   pub asc : AscBlocks next gs
-  pub bytes : drop at s ≡ bytesOf (blockOf p) gs ++ (endBlock ++ drop (e .start + 6) s)
   pub start : e .start ≡ at + totalBytes p gs
   pub count : e .count ≡ o + length (idsOf gs)
   pub after : e .next ≡ endOf next gs
@@ -87,11 +74,14 @@ module _ (p : ℕ) (ok : Power p) (s : List ℕ) where
         let six : take 6 (drop at s) ≡ endBlock = same-eq (take 6 (drop at s)) endBlock (s2 .0) in
         record {
           gs = [];
-          fine = tt;
+          stands =
+              record {
+                fine = tt;
+                bytes =
+                    sym (take-append-drop 6 (drop at s))
+                    ∙ ap₂ {C = List ℕ} (λ (x y : List ℕ). x ++ y) six (drop-drop 6 at s ∙ ap (λ (x : ℕ). drop (x + 6) s) a);
+              };
           asc = tt;
-          bytes =
-              sym (take-append-drop 6 (drop at s))
-              ∙ ap₂ {C = List ℕ} (λ (x y : List ℕ). x ++ y) six (drop-drop 6 at s ∙ ap (λ (x : ℕ). drop (x + 6) s) a);
           start = omega arith;
           count = omega (arith, no-ids);
           after = sym c;
@@ -112,7 +102,8 @@ module _ (p : ℕ) (ok : Power p) (s : List ℕ) where
     short-lt at h = take-lt 2 (drop at s) (omega (arith, length-drop at s)) (below-drop 256 at s u)
 
     module _ (at o next k c : ℕ) (e : Ended) (ek : lowAt 2 s at ≡ k) (ec : suc (lowAt 2 s (at + 2)) ≡ c) (h4 : at + 4 ≤ length s)
-        (hb : at + blockBytes p c ≤ length s) (hn : next ≤ k) (hk : k ≤ 32765) (d : Held p s (at + 4) c) (more : Built p s (at + blockBytes p c) (o + c) (suc k) e) where
+        (hb : at + blockBytes p c ≤ length s) (hn : next ≤ k) (hk : k ≤ 32765) (d : Held p s (at + 4) c)
+        (more : Built p s (at + blockBytes p c) (o + c) (suc k) e) where
       abbrev run : Run
       run = record { block = k; places = d .places }
 
@@ -123,7 +114,8 @@ module _ (p : ℕ) (ok : Power p) (s : List ℕ) where
           let f : at + 4 + dataBytes p c ≡ at + (4 + dataBytes p c) = omega arith in
           head-bytes at h4
           ∙ ap₂ {C = List ℕ} (λ (x y : ℕ). low 2 x ++ (low 2 y ++ drop (at + 4) s)) ek c1
-          ∙ ap (λ (l : List ℕ). low 2 k ++ (low 2 (length (d .places) - 1) ++ l)) (d .bytes ∙ ap (λ (x : ℕ). blockData p (d .places) ++ drop x s) f)
+          ∙ ap (λ (l : List ℕ). low 2 k ++ (low 2 (length (d .places) - 1) ++ l))
+          (d .bytes ∙ ap (λ (x : ℕ). blockData p (d .places) ++ drop x s) f)
           ∙ sym (block-shape p run (drop (at + (4 + dataBytes p c)) s))
 
       built-block : Built p s at o next e
@@ -131,12 +123,20 @@ module _ (p : ℕ) (ok : Power p) (s : List ℕ) where
       built-block =
           record {
             gs = run ∷ more .gs;
-            fine = (record { number = omega arith; some-place = omega (arith, d .count); ascending = d .ascending; inside = d .inside }, more .fine);
+            stands =
+                record {
+                  fine = (
+                    record { number = omega arith; some-place = omega (arith, d .count); ascending = d .ascending; inside = d .inside },
+                    more .stands .fine,
+                  );
+                  bytes =
+                      one-block ∙ ap (λ (l : List ℕ). blockOf p run ++ l) (more .stands .bytes)
+                      ∙ sym (append-assoc (blockOf p run) (bytesOf (blockOf p) (more .gs)) (endBlock ++ drop (e .start + 6) s));
+                };
             asc = (hn, more .asc);
-            bytes =
-                one-block ∙ ap (λ (l : List ℕ). blockOf p run ++ l) (more .bytes)
-                ∙ sym (append-assoc (blockOf p run) (bytesOf (blockOf p) (more .gs)) (endBlock ++ drop (e .start + 6) s));
-            start = more .start ∙ ap (λ (n : ℕ). at + blockBytes p n + totalBytes p (more .gs)) (sym (d .count)) ∙ add-assoc at (blockBytes p (length (d .places))) (totalBytes p (more .gs));
+            start =
+                more .start ∙ ap (λ (n : ℕ). at + blockBytes p n + totalBytes p (more .gs)) (sym (d .count))
+                ∙ add-assoc at (blockBytes p (length (d .places))) (totalBytes p (more .gs));
             count = omega (arith, more .count, d .count, length-ids run (more .gs));
             after = more .after;
             fits = more .fits;
@@ -175,16 +175,17 @@ module _ (p : ℕ) (ok : Power p) (s : List ℕ) where
 
   -- ---- to the tests
 
-  pub judged-end : (f at o next : ℕ) (e : Ended) (rest : List ℕ) → drop at s ≡ endBlock ++ rest → at ≡ e .start → o ≡ e .count → next ≡ e .next
+  judged-end : (f at o next : ℕ) (e : Ended) (rest : List ℕ) → Stands p s at [] rest → at ≡ e .start → o ≡ e .count → next ≡ e .next
       → judgeFrom (suc f) p s at o next ≡ done e
-  unfolding judgeFrom judgeEnd need lowAt
+  unfolding judgeFrom judgeEnd need bytesOf totalBytes
   judged-end f at o next e rest h a b c =
-      let l : at + 6 ≤ length s = end-drop s at 6 (endBlock ++ rest) h (six-long rest) (lit< tt) in
-      rw (h, the-end rest, le-leb (at + 4) (length s) (omega arith), le-leb (at + 6) (length s) l, six rest)
+      let hp : p ≤ 16 = omega (arith, ok .most) in
+      let l : at + 6 ≤ length s = omega (arith, stands-long p hp s at rest [] h) in
+      rw (end-number p hp s at rest h, le-leb (at + 4) (length s) (omega arith), le-leb (at + 6) (length s) l, h .bytes, six rest)
       (ap {B = Outcome Ended} (λ (x : Ended). done x) (ended at o next e a b c))
 
   -- a block that passes: the judge goes on after it
-  pub went-on : (f at o next k c : ℕ) → lowAt 2 s at ≡ k → suc (lowAt 2 s (at + 2)) ≡ c → at + 4 ≤ length s → (k ≡ 32767 → ⊥)
+  went-on : (f at o next k c : ℕ) → lowAt 2 s at ≡ k → suc (lowAt 2 s (at + 2)) ≡ c → at + 4 ≤ length s → (k ≡ 32767 → ⊥)
       → at + blockBytes p c ≤ length s → next ≤ k → k ≤ 32765 → Passed p ok s (at + 4) c
       → judgeFrom (suc f) p s at o next ≡ judgeFrom f p s (at + blockBytes p c) (o + c) (suc k)
   unfolding judgeFrom judgeBlock need
@@ -202,24 +203,18 @@ module _ (p : ℕ) (ok : Power p) (s : List ℕ) where
         q .in-ranks,
       )
 
-  pub judged : (f at o next : ℕ) (gs : List Run) (rest : List ℕ) (e : Ended) → AllFine gs → AscBlocks next gs → length gs < f
-      → drop at s ≡ bytesOf (blockOf p) gs ++ (endBlock ++ rest)
+  pub judged : (f at o next : ℕ) (gs : List Run) (rest : List ℕ) (e : Ended) → Stands p s at gs rest → AscBlocks next gs → length gs < f
       → at + totalBytes p gs ≡ e .start → o + length (idsOf gs) ≡ e .count → endOf next gs ≡ e .next → judgeFrom f p s at o next ≡ done e
-  unfolding bytesOf totalBytes endOf
-  judged zero at o next gs rest e t u h b x y z = absurd (omega arith)
-  judged (suc f) at o next [] rest e t u h b x y z = judged-end f at o next e rest b (omega arith) (omega (arith, no-ids)) z
-  judged (suc f) at o next (g ∷ gs) rest e t u h b x y z =
-      let more : List ℕ = bytesOf (blockOf p) gs ++ (endBlock ++ rest) in
+  unfolding totalBytes endOf
+  judged zero at o next gs rest e t u h x y z = absurd (omega arith)
+  judged (suc f) at o next [] rest e t u h x y z = judged-end f at o next e rest t (omega arith) (omega (arith, no-ids)) z
+  judged (suc f) at o next (g ∷ gs) rest e t u h x y z =
+      let a = ahead p (omega (arith, ok .most)) s at rest g gs t in
       let c : ℕ = length (g .places) in
-      let hp : p ≤ 16 = omega (arith, ok .most) in
-      let here : drop at s ≡ blockOf p g ++ more = b ∙ append-assoc (blockOf p g) (bytesOf (blockOf p) gs) (endBlock ++ rest) in
-      let long : length (blockOf p g) ≡ blockBytes p c = length-blockOf p g hp in
-      let fit : at + blockBytes p c ≤ length s = end-drop s at (blockBytes p c) (blockOf p g ++ more) here (omega (arith, length-append (blockOf p g) more)) (omega (arith, block-total p c)) in
-      let ek : lowAt 2 s at ≡ g .block = low-is s at (blockOf p g ++ more) (g .block) here (the-number f p g more hp (t .0)) in
-      let ec : suc (lowAt 2 s (at + 2)) ≡ c = ap suc (low-is s (at + 2) (drop 2 (blockOf p g ++ more)) _ (sym (drop-drop 2 at s) ∙ ap (drop 2) here) refl) ∙ the-count f p g more hp (t .0) in
-      let d : drop (at + 4) s ≡ blockData p (g .places) ++ more = sym (drop-drop 4 at s) ∙ ap (drop 4) here ∙ the-data f p g more hp (t .0) in
-      went-on f at o next (g .block) c ek ec (omega (arith, block-total p c)) (λ q. omega (arith, t .0 .number)) fit (u .0) (omega (arith, t .0 .number))
-      (passed p ok s (at + 4) (g .places) more (t .0 .ascending) (t .0 .inside) d (count-fits f p g more hp (t .0)))
-      ∙ judged f (at + blockBytes p c) (o + c) (suc (g .block)) gs rest e (t .1) (u .1) (omega arith)
-      (sym (drop-drop (blockBytes p c) at s) ∙ ap (drop (blockBytes p c)) here ∙ drop-at (blockOf p g) more (blockBytes p c) long)
+      let more : List ℕ = bytesOf (blockOf p) gs ++ (endBlock ++ rest) in
+      let count : suc (lowAt 2 s (at + 2)) ≡ c = omega (arith, a .count) in
+      let within : at + 4 ≤ length s = omega (arith, a .inside, block-total p c) in
+      went-on f at o next (g .block) c (a .number) count within (λ q. omega (arith, a .fine .number)) (omega (arith, a .inside)) (u .0)
+      (omega (arith, a .fine .number)) (passed p ok s (at + 4) (g .places) more (a .fine .ascending) (a .fine .inside) (a .its-data) (a .few))
+      ∙ judged f (at + blockBytes p c) (o + c) (suc (g .block)) gs rest e (a .after) (u .1) (omega arith)
       (omega arith) (omega (arith, length-ids g gs)) z

@@ -1,30 +1,18 @@
--- Bytes of a string joined to one number: the number in their bits.
--- Assumes nothing.
+-- Numbers in the bits of a string: one byte, a window of eight, and the place of the next number. Assumes nothing.
 use mathlib.Core.Path.{_≡_, sym, ap, _∙_}
 use mathlib.Core.List.{List}
 use Prim.Native.Nat.{ℕ, _+_, _-_, _*_, _/_, _%_, _^_, _≤_, _<_}
-use native.Mathlib.Nat.{lt-of-lt-of-le, mod-lt, mul-le-mul-right, add-mul, suc-mul, one-mul}
+use native.Mathlib.Nat.{mul-le-mul-right, add-mul, one-mul}
 use native.Mathlib.Omega.{arith}
 use lib.ListN.{getD}
-use lib.Pow.{shl-lt, shr-shr, shl-shr, field, pow-mono, pow-pos, mod-pow-add, low}
+use lib.Pow.{shr-shr, shl-shr, field, mod-mod-pow}
 use Rattle.format.specs.Bits.{bitOf, bitAt, gather}
-use Rattle.format.proofs.Bits.{gather-add, gather-lt, gather-whole, gather-part, bitAt-lt}
+use Rattle.format.proofs.Bits.{gather-whole, gather-part, bitAt-lt}
 
 -- one byte
 pub byte-gather : (s : List ℕ) (b : ℕ) → getD s b 0 < 256 → getD s b 0 ≡ gather (bitAt s) (b * 8) 8
 unfolding bitAt bitOf
 byte-gather s b h = sym (gather-whole 8 s b h)
-
-module _ (s : List ℕ) (b c n hi lo : ℕ) (next : c * 8 ≡ b * 8 + n) (h : hi ≡ gather (bitAt s) (b * 8) n) (l : lo ≡ gather (bitAt s) (c * 8) n) where
-  -- n bits from byte b on, and the n bits after them
-  pub join-is : hi * 2 ^ n + lo ≡ gather (bitAt s) (b * 8) (n + n)
-  join-is = rw (h, l, next) (sym (gather-add (bitAt s) (b * 8) n n))
-
-  pub join-low : lo < 2 ^ n
-  join-low = rw l (gather-lt (bitAt s) (bitAt-lt s) (c * 8) n)
-
-  pub join-fits : n ≤ 32 → hi * 2 ^ n < 2 ^ 64
-  join-fits k = rw h (lt-of-lt-of-le (shl-lt n n (gather-lt (bitAt s) (bitAt-lt s) (b * 8) n)) (pow-mono {j = 64} (omega arith)))
 
 -- the bits of x after its first a, shifted to the front and back
 pub middle-is : (x a w : ℕ) → a + w ≤ 64 → x * 2 ^ a % 2 ^ 64 / 2 ^ (64 - w) ≡ x / 2 ^ (64 - a - w) % 2 ^ w
@@ -43,15 +31,12 @@ window-is s b k a n x hk h e =
     let m : ℕ = 64 - k - (a + n) in
     let t : 64 - a - n ≡ 64 - (a + n) = omega arith in
     let q : x * 2 ^ k % 2 ^ 64 / 2 ^ (64 - (a + n)) ≡ x / 2 ^ m % 2 ^ (a + n) = middle-is x k (a + n) (omega arith) in
-    let r : x / 2 ^ m % 2 ^ (a + n) % 2 ^ n ≡ x / 2 ^ m % 2 ^ n = mod-low (x / 2 ^ m) a n in
+    let r : x / 2 ^ m % 2 ^ (a + n) % 2 ^ n ≡ x / 2 ^ m % 2 ^ n = mod-mod-pow (x / 2 ^ m) a n in
     let u : b * 8 + (k + a) ≡ b * 8 + k + a = omega arith in
     ap (λ (j : ℕ). x * 2 ^ k % 2 ^ 64 / 2 ^ j % 2 ^ n) t ∙ ap (λ (y : ℕ). y % 2 ^ n) q ∙ r
     ∙ ap (λ (y : ℕ). y / 2 ^ m % 2 ^ n) e
     ∙ gather-part (bitAt s) (bitAt-lt s) (b * 8) (k + a) n m 64 (omega arith)
     ∙ ap (λ (j : ℕ). gather (bitAt s) j n) u
-  where
-    mod-low : (y a n : ℕ) → y % 2 ^ (a + n) % 2 ^ n ≡ y % 2 ^ n
-    mod-low y a n = ap (λ (z : ℕ). z % 2 ^ n) (mod-pow-add y a n) ∙ low (y / 2 ^ n % 2 ^ a) n (mod-lt y (pow-pos n))
 
 -- the window at number i is within the bytes while 64 numbers are left
 pub window-inside : (i n w at skip b : ℕ) → 0 < w → i + 64 ≤ n → n * w ≤ 8 * b → at * 8 + skip ≡ i * w → at + 8 ≤ b
@@ -59,10 +44,6 @@ window-inside i n w at skip b p h l e =
     let m : (i + 64) * w ≤ n * w = mul-le-mul-right w h in
     let q : (i + 64) * w ≡ i * w + 64 * w = add-mul i 64 w in
     omega arith
-
--- number i ends within the bytes
-pub number-inside : (i n w b : ℕ) → i < n → n * w ≤ b → i * w + w ≤ b
-number-inside i n w b h l = omega (arith, suc-mul i w, mul-le-mul-right w h)
 
 -- the place k numbers on, as a byte and the bits before it there
 pub place-on : (k i w at skip : ℕ) → at * 8 + skip ≡ i * w → (at + (skip + k * w) / 8) * 8 + (skip + k * w) % 8 ≡ (i + k) * w

@@ -1,11 +1,9 @@
 // Numbers of w bits each, packed into bytes high bit first.
 ghost use mathlib.Core.Path.{_≡_};
 ghost use Prim.Native.Nat.{ℕ, _+_, _-_, _*_, _/_, _%_, _^_, _≤_, _<_, min};
-ghost use mathlib.Core.List.{_++_};
-ghost use lib.ListN.{length, drop};
+ghost use lib.ListN.{length};
 ghost use Rattle.format.specs.Limits.{maxCount, maxWidth};
-ghost use Rattle.format.specs.Bits.{bitAt, gather, fetched, packed, bitBytes, packedBytes};
-ghost use Rattle.packing.specs.Appended.{Appended};
+ghost use Rattle.format.specs.Bits.{bitAt, gather, fetched, packedBytes};
 ghost use Rattle.packing.specs.Turned.{turned};
 ghost use Rattle.packing.specs.Stream.{Stored, Pushed, Finished};
 
@@ -88,7 +86,7 @@ fn read(s: &[u8], b: usize, skip: usize, w: usize) -> u64
 
 // The eight bytes of x in the other order.
 fn swapped(x: u64) -> u64
-    ensures { λ r. ⌜ r ≡ turned x ⌝ }
+    ensures { λ r. ⌜ r ≡ turned 8 x ⌝ }
 {
     x % 256 * 72057594037927936
         + x / 256 % 256 * 281474976710656
@@ -155,53 +153,6 @@ pub fn next_of(s: &[u8], w: usize, i: usize, n: usize, at: usize, skip: usize) -
         }
     }
     fetch(s, w, i)
-}
-
-// The byte old with its first skip bits kept, then the n bits of part, then zeros.
-fn patched(old: u8, skip: usize, n: usize, part: u64) -> u8
-    requires { ⌜ (skip + n ≤ 8) × (part < 2 ^ n) ⌝ }
-    ensures { λ r. ⌜ r ≡ old / 2 ^ (8 - skip) * 2 ^ (8 - skip) + part * 2 ^ (8 - skip - n) ⌝ }
-{
-    let room = 8 - skip;
-    let kept = (wide(old) >> room) << room;
-    (kept | (part << (room - n))) as u8
-}
-
-// Appends the w low bits of x to the numbers of w bits that dst holds up to the first skip bits of its byte b. The bytes after x stay.
-fn write(dst: &mut [u8], b: usize, skip: usize, w: usize, x: u64)
-    requires { ⌜ (skip < 8) × (w ≤ 64) × (b * 8 + skip + w ≤ 8 * length (now dst)) ⌝ }
-    ensures { λ _. ⌜ Appended w x (b * 8 + skip) (now (dst .entry)) (now (dst .exit)) ⌝ }
-{
-    let mut at = skip;
-    let end = skip + w;
-    while at < end {
-        let before = at & 7;
-        let n = least(8 - before, end - at);
-        let part = field(x, end - at - n, n);
-        let k = b + (at >> 3);
-        dst[k] = patched(dst[k], before, n, part);
-        at += n;
-    }
-}
-
-// Writes the w low bits of x as the i-th number, after the first i. The bytes after it stay.
-pub fn put(dst: &mut [u8], w: usize, i: usize, x: u64)
-    requires { ⌜ (w ≤ 64) × (i * w + w ≤ 8 * length (now dst)) ⌝ }
-    ensures { λ _. ⌜ Appended w x (i * w) (now (dst .entry)) (now (dst .exit)) ⌝ }
-{
-    write(dst, byte_of(i, w), skip_of(i, w), w, x);
-}
-
-// Packs the numbers xs, the w low bits of each, into the first bytes of dst. The bytes after them stay.
-pub fn pack(xs: &[u64], w: usize, dst: &mut [u8])
-    requires { ⌜ (w ≤ 64) × (length (now xs) * w ≤ 8 * length (now dst)) ⌝ }
-    ensures { λ _. ⌜ now (dst .exit) ≡ packed w (now (xs .entry)) ++ drop (bitBytes (length (now (xs .entry)) * w)) (now (dst .entry)) ⌝ }
-{
-    let mut i = 0;
-    while i < xs.len() {
-        put(dst, w, i, xs[i]);
-        i += 1;
-    }
 }
 
 // The byte of v above its k low bits.

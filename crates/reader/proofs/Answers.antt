@@ -17,7 +17,8 @@ use Rattle.reader.proofs.Decoded.{Decoded}
 
 -- ---- a refusal
 
-pub refused-so : (o : Outcome Pairs) (r : Rp.Reply) (why w : ℕ) (ids : List ℕ) (vs : List ℤ) → o ≡ refused why w → replyOf r ≡ refused why w → Answered o r ids ids vs vs
+pub refused-so : (o : Outcome Pairs) (r : Rp.Reply) (why w : ℕ) (ids : List ℕ) (vs : List ℤ) → o ≡ refused why w → replyOf r ≡ refused why w
+    → Answered o r ids ids vs vs
 unfolding readReply idsAfter valuesAfter
 refused-so o r why w ids vs e h = rw e (record { reply = h; in-ids = refl; in-values = refl })
 
@@ -33,7 +34,8 @@ whole bytes c o e = record { opens = o; taken = rw e }
 
 -- ---- success
 
-pub done-so : (bytes : List ℕ) (c : Opened) (r : Rp.Reply) (ids ids′ : List ℕ) (vs vs′ : List ℤ) → Whole bytes c → Decoded bytes c → replyOf r ≡ done (c .head .count)
+pub done-so : (bytes : List ℕ) (c : Opened) (r : Rp.Reply) (ids ids′ : List ℕ) (vs vs′ : List ℤ) → Whole bytes c → Decoded bytes c
+    → replyOf r ≡ done (c .head .count)
     → ids′ ≡ pairsIn bytes c .ids ++ drop (c .head .count) ids → vs′ ≡ pairsIn bytes c .values ++ drop (c .head .count) vs
     → Answered (accepted bytes c) r ids ids′ vs vs′
 unfolding readReply idsAfter valuesAfter
@@ -65,5 +67,6 @@ module _ (bytes : List ℕ) (m n : ℕ) where
     unfolding reading andThen need
     enough h k = rw (e, le-leb (c .head .count) m h, le-leb (c .head .count) n k)
 
-pub answered-as : (o o′ : Outcome Pairs) (r : Rp.Reply) (ids ids′ : List ℕ) (vs vs′ : List ℤ) → o′ ≡ o → Answered o r ids ids′ vs vs′ → Answered o′ r ids ids′ vs vs′
+pub answered-as : (o o′ : Outcome Pairs) (r : Rp.Reply) (ids ids′ : List ℕ) (vs vs′ : List ℤ) → o′ ≡ o → Answered o r ids ids′ vs vs′
+    → Answered o′ r ids ids′ vs vs′
 answered-as o o′ r ids ids′ vs vs′ e t = subst (λ (x : Outcome Pairs). Answered x r ids ids′ vs vs′) (sym e) t

@@ -15,8 +15,8 @@ use Rattle.format.specs.Opening.{Opened, idPart, valuePart, valueIn}
 use Rattle.format.specs.Check.{pairsIn}
 use Rattle.format.proofs.Unique.{accepted-is}
 use Rattle.judge.proofs.Split.{parts, accepted-joined}
-use Rattle.column.specs.Facts.{Sound}
-use Rattle.column.proofs.Facts.{sound}
+use Rattle.format.specs.Rules.{Sound}
+use Rattle.format.proofs.Open.{sound}
 use Rattle.id_reader.specs.Placed.{Accepted}
 use Rattle.value_reader.specs.Stored.{valuesOf}
 use Rattle.value_reader.proofs.Each.{values-in}
@@ -45,7 +45,8 @@ module _ (bytes : List ℕ) (c : Opened) (u : Below 256 bytes) (w : Whole bytes 
 
   in-values : length (q .ids) ≡ h .count → valuesOf (h .least) (h .step) (unpacked (h .bits) (h .count) (valuePart bytes c)) ≡ q .values
   unfolding pairsIn
-  in-values e = sym (ap (λ (n : ℕ). map (valueIn h) (unpacked (h .bits) n (valuePart bytes c))) e ∙ values-in h (unpacked (h .bits) (h .count) (valuePart bytes c)))
+  in-values e =
+      sym (ap (λ (n : ℕ). map (valueIn h) (unpacked (h .bits) n (valuePart bytes c))) e ∙ values-in h (unpacked (h .bits) (h .count) (valuePart bytes c)))
 
   pub decoded : Decoded bytes c
   decoded =

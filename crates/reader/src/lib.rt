@@ -39,7 +39,9 @@ fn read_values(bytes: &[u8], c: Column, values: &mut [i64])
 // An opened column: 12 if a buffer is too short, 13 if it is no column, and else its pairs.
 fn read_opened(bytes: &[u8], c: Column, ids: &mut [u32], values: &mut [i64]) -> Reply
     requires { ⌜ openColumn (now bytes) ≡ done (columnOf c) ⌝ }
-    ensures { λ r. ⌜ Answered (reading (now (bytes .entry)) (length (now (ids .entry))) (length (now (values .entry)))) r (now (ids .entry)) (now (ids .exit)) (now (values .entry)) (now (values .exit)) ⌝ }
+    ensures { λ r.
+        ⌜ Answered (reading (now (bytes .entry)) (length (now (ids .entry))) (length (now (values .entry))))
+        r (now (ids .entry)) (now (ids .exit)) (now (values .entry)) (now (values .exit)) ⌝ }
 {
     let n = size(c.count);
     if ids.len() < n {
@@ -59,8 +61,12 @@ fn read_opened(bytes: &[u8], c: Column, ids: &mut [u32], values: &mut [i64]) -> 
 // n for a column, whose pairs then are the first n places of both buffers; and else the first refusal, with both as they were.
 pub fn read(bytes: &[u8], ids: &mut [u32], values: &mut [i64]) -> Reply
     ensures reply { λ r. ⌜ replyOf r ≡ readReply (reading (now (bytes .entry)) (length (now (ids .entry))) (length (now (values .entry)))) ⌝ }
-    ensures in_ids { λ r. ⌜ now (ids .exit) ≡ idsAfter (reading (now (bytes .entry)) (length (now (ids .entry))) (length (now (values .entry)))) (now (ids .entry)) ⌝ }
-    ensures in_values { λ r. ⌜ now (values .exit) ≡ valuesAfter (reading (now (bytes .entry)) (length (now (ids .entry))) (length (now (values .entry)))) (now (values .entry)) ⌝ }
+    ensures in_ids { λ r.
+        ⌜ now (ids .exit)
+        ≡ idsAfter (reading (now (bytes .entry)) (length (now (ids .entry))) (length (now (values .entry)))) (now (ids .entry)) ⌝ }
+    ensures in_values { λ r.
+        ⌜ now (values .exit)
+        ≡ valuesAfter (reading (now (bytes .entry)) (length (now (ids .entry))) (length (now (values .entry)))) (now (values .entry)) ⌝ }
 {
     match Column::open(bytes) {
         Opened::Refused(why) => Reply::Refused(why),

@@ -2,7 +2,7 @@
 use mathlib.Core.Path.{_≡_, refl, sym, ap, ap₂, _∙_}
 use mathlib.Core.Bool.{Bool, true, false}
 use mathlib.Core.List.{List}
-use Prim.Native.Nat.{ℕ, zero, suc, _+_, _-_, _*_, _/_, _^_, _<_, _≤_}
+use Prim.Native.Nat.{ℕ, zero, suc, _+_, _*_, _/_, _^_, _<_, _≤_}
 use native.Mathlib.Nat.{mod-eq-of-lt}
 use native.Mathlib.Omega.{arith}
 use lib.Dec.{eqb, lit<}
@@ -13,6 +13,7 @@ use Rattle.format.specs.Bytes.{digits, fromDigits, low, fromLow, same, lowAt}
 use Rattle.format.specs.Ids.{Entry, entryBytes, endBlock}
 use Rattle.format.specs.Pairs.{Below}
 use Rattle.format.proofs.Cases.{equal-or}
+use Rattle.format.proofs.Section.{entry-eight}
 use Rattle.format.proofs.Digits.{digits-from, from-digits, from-append, length-digits, below-append}
 use Rattle.format.proofs.RoundTrip.{same-refl}
 use Rattle.format.proofs.Unique.{same-eq}
@@ -43,10 +44,6 @@ entry-below : (e : Entry) → Below 256 (entryBytes e)
 unfolding entryBytes
 entry-below e = below-append 256 (low 4 (e .0)) (low 4 (e .1)) (below-low 4 (e .0)) (below-low 4 (e .1))
 
-entry-long : (e : Entry) → length (entryBytes e) ≡ 8
-unfolding entryBytes digits
-entry-long e = refl
-
 entry-number : (o a : ℕ) → o < 4294967296 → a < 4294967296 → fromLow (entryBytes (o, a)) ≡ o + 4294967296 * a
 unfolding entryBytes
 entry-number o a h k =
@@ -66,14 +63,14 @@ six-number s b h = low-add 4 2 s b (omega arith)
 pub entry-same : (s : List ℕ) (b o a : ℕ) → Below 256 s → b + 8 ≤ length s → o < 4294967296 → a < 4294967296
     → same (take 8 (drop b s)) (entryBytes (o, a)) ≡ eqb (lowAt 4 s b + 4294967296 * lowAt 4 s (b + 4)) (o + 4294967296 * a)
 entry-same s b o a u h ho ha =
-    same-number (take 8 (drop b s)) (entryBytes (o, a)) (length-take-le 8 (drop b s) (omega (arith, length-drop b s)) ∙ sym (entry-long (o, a)))
+    same-number (take 8 (drop b s)) (entryBytes (o, a)) (length-take-le 8 (drop b s) (omega (arith, length-drop b s)) ∙ sym (entry-eight (o, a)))
     (below-take 256 8 (drop b s) (below-drop 256 b s u)) (entry-below (o, a))
     ∙ ap₂ eqb (long-number s b h) (entry-number o a ho ha)
 
 pub entry-short : (s : List ℕ) (b : ℕ) (e : Entry) → length s < b + 8 → same (take 8 (drop b s)) (entryBytes e) ≡ false
 entry-short s b e h =
     differ (take 8 (drop b s)) (entryBytes e)
-    (λ q. omega (arith, ap length q, length-take 8 (drop b s), length-drop b s, entry-long e))
+    (λ q. omega (arith, ap length q, length-take 8 (drop b s), length-drop b s, entry-eight e))
 
 end-below : Below 256 endBlock
 unfolding endBlock

@@ -1,17 +1,13 @@
 -- What follows the end block. Assumes nothing.
 use mathlib.Core.Path.{_≡_, refl, sym, ap, _∙_}
-use mathlib.Core.Bool.{Bool, true, false, _&&_}
 use mathlib.Core.List.{List, []}
-use Prim.Native.Nat.{ℕ, suc, _+_, _-_, _<_, _≤_}
-use native.Mathlib.Omega.{arith}
-use lib.Dec.{leb}
+use Prim.Native.Nat.{ℕ, suc, _+_}
 use lib.ListN.{length}
-use borrow.Author.Tests.{eq-eqb, ne-eqb, le-leb, lt-leb}
-use Rattle.format.specs.Limits.{powerOk}
+use borrow.Author.Tests.{eq-eqb, ne-eqb}
 use Rattle.format.specs.Refusals.{done, refused, andThen, need}
 use Rattle.format.specs.Ids.{Entry, notTwo, jumpsFrom}
 use Rattle.format.specs.IdsRead.{readRuns}
-use Rattle.judge.specs.Judge.{Ended, judgeFrom, judgeEntries, judgeRest, judge, judgeSection}
+use Rattle.judge.specs.Judge.{Ended, judgeFrom, judgeEntries, judgeRest, judge}
 
 two : (es : List Entry) → length es ≡ 2 → notTwo es ≡ []
 unfolding notTwo
@@ -79,30 +75,3 @@ pub judge-rest : (p j : ℕ) (s : List ℕ) (e : Ended) → done e ≡ judgeFrom
     → judgeRest (notTwo (jumpsFrom p 0 0 0 (readRuns (length s) p s))) j s e ≡ judge p j s
 unfolding judge andThen
 judge-rest p j s e h = rw (sym h) refl
-
--- ---- the limits
-
-either-false : (a : Bool) → a && false ≡ false
-either-false true = refl
-either-false false = refl
-
-module _ (p j : ℕ) (s : List ℕ) where
-  pub many : 32767 < j → refused 10 0 ≡ judgeSection p j s
-  unfolding judgeSection need
-  many h = rw (lt-leb j 32767 h, either-false (powerOk p))
-
-  pub too-high : 15 < p → refused 10 0 ≡ judgeSection p j s
-  unfolding judgeSection need
-  too-high h = rw (ne-eqb p 0 (λ e. omega arith), lt-leb p 15 h, either-false (leb 7 p))
-
-  pub too-low : (p ≡ 0 → ⊥) → p < 7 → refused 10 0 ≡ judgeSection p j s
-  unfolding judgeSection need
-  too-low e h = rw (ne-eqb p 0 e, lt-leb 7 p h)
-
-  pub with-none : p ≡ 0 → j ≤ 32767 → judge p j s ≡ judgeSection p j s
-  unfolding judgeSection need
-  with-none e h = rw (eq-eqb p 0 e, le-leb j 32767 h)
-
-  pub with-ranks : 7 ≤ p → p ≤ 15 → j ≤ 32767 → judge p j s ≡ judgeSection p j s
-  unfolding judgeSection need
-  with-ranks l m h = rw (ne-eqb p 0 (λ e. omega arith), le-leb 7 p l, le-leb p 15 m, le-leb j 32767 h)

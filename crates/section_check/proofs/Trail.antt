@@ -1,37 +1,36 @@
--- The second walk, over blocks that were judged: the jump entries. Assumes nothing.
+-- The second pass, over blocks that were judged: the jump entries. At each turn the runs ahead stand at the place, and the entries that are
+-- left are theirs; a block's entries are one and the same, so a turn passes them at once. Assumes nothing.
 use mathlib.Core.Path.{_≡_, refl, sym, ap, ap₂, _∙_, subst}
-use mathlib.Core.Bool.{true, false}
-use mathlib.Core.List.{List, [], _∷_, _++_, append-assoc}
+use mathlib.Core.Bool.{Bool, true, false}
+use mathlib.Core.List.{List, [], _∷_, _++_}
 use Prim.Native.Nat.{ℕ, suc, _+_, _-_, _*_, _<_, _≤_, zero-le}
 use native.Mathlib.Nat.{add-zero}
 use native.Mathlib.Numerals.{add-one}
 use native.Mathlib.Omega.{arith}
-use lib.ListN.{length, take, drop, replicate, length-append}
-use lib.Seq.{drop-at, drop-drop}
+use lib.ListN.{length, take, drop, replicate}
 use borrow.Author.Tests.{lt-ltb, le-ltb}
+use Rattle.format.specs.Limits.{Power, maxBlock}
 use Rattle.format.specs.Refusals.{done, refused, need}
-use Rattle.format.specs.Bytes.{bytesOf, low, same, lowAt}
-use Rattle.format.specs.Ids.{Run, Entry, blockBytes, blockOf, endBlock, jumpsFrom, entryBytes}
+use Rattle.format.specs.Bytes.{same, lowAt}
+use Rattle.format.specs.Ids.{Run, Entry, blockBytes, jumpsFrom, entryBytes}
 use Rattle.format.specs.IdsRead.{readRuns}
 use Rattle.format.specs.Pairs.{Below}
-use Rattle.format.proofs.Section.{totalBytes, length-blockOf}
-use Rattle.format.proofs.Blocks.{AllFine, the-number, the-count, count-fits}
-use Rattle.format.proofs.Jumps.{AscBlocks, length-jumps}
+use Rattle.format.specs.Runs.{totalBytes, AscBlocks}
+use Rattle.format.proofs.Jumps.{length-jumps}
 use Rattle.format.proofs.Bounds.{total-le, end-le, block-le}
-use Rattle.format.specs.Limits.{Power}
-use Rattle.judge.specs.Judge.{Ended, judgeFrom, judgeEntries}
-use Rattle.judge.proofs.Built.{Built, built, end-drop, low-is}
 use Rattle.format.proofs.Sizes.{block-total, rank-max}
+use Rattle.format.proofs.Standing.{Stands, Ahead, ahead}
+use Rattle.judge.specs.Judge.{jumpWrong, Ended, judgeFrom, judgeEntries}
+use Rattle.judge.proofs.Built.{Built, built}
 use Rattle.judge.proofs.Judged.{runs-back}
 use Rattle.section_check.specs.Reasons.{Repeats}
 
--- the judge of the entries stands at block i of the place `at`, with o ids before it
+-- block i is next, at the place `at`, with o ids before it
 pub record Trail (p : ℕ) (s : List ℕ) (start : ℕ) (whole : List Entry) (at o i : ℕ) : Type 0 where
   pub gs : List Run
-  pub fine : AllFine gs
-  pub asc : AscBlocks i gs
   pub rest : List ℕ
-  pub bytes : drop at s ≡ bytesOf (blockOf p) gs ++ (endBlock ++ rest)
+  pub stands : Stands p s at gs rest
+  pub asc : AscBlocks i gs
   pub total : start ≡ at + totalBytes p gs
   pub same : judgeEntries whole s (start + 6) ≡ judgeEntries (jumpsFrom p i o at gs) s (start + 6 + 8 * i)
   pub few : o ≤ 65536 * i
@@ -39,25 +38,26 @@ pub record Trail (p : ℕ) (s : List ℕ) (start : ℕ) (whole : List Entry) (at
   pub most : i ≤ 32766
   pub near : start ≤ 302102520
 
--- a block ahead, of number k and c ids
+-- a block ahead, of number k and c ids: the entries i to k are (o, at)
 pub record Here (p : ℕ) (s : List ℕ) (start : ℕ) (whole : List Entry) (at o i k c : ℕ) : Type 0 where
-  pub head : at + 4 ≤ length s
   pub after : i ≤ k
-  pub most : k ≤ 32765
+  pub most : k ≤ maxBlock
   pub inside : at + blockBytes p c ≤ start
-  pub stop : (n r : ℕ) → n ≡ k + 1 - i → r < n → Repeats s (start + 6 + 8 * i) n o at r
-      → refused 7 (start + 6 + 8 * i + 8 * r) ≡ judgeEntries whole s (start + 6)
-  pub on : (n at′ : ℕ) → n ≡ k + 1 - i → at′ ≡ at + blockBytes p c → Repeats s (start + 6 + 8 * i) n o at n → Trail p s start whole at′ (o + c) (k + 1)
+  pub head : at + 4 ≤ length s
+  pub stop : (n r x : ℕ) → n ≡ k + 1 - i → x ≡ at → r < n → Repeats s (start + 6 + 8 * i) n o x r
+      → refused jumpWrong (start + 6 + 8 * i + 8 * r) ≡ judgeEntries whole s (start + 6)
+  pub on : (n r x to : ℕ) → n ≡ k + 1 - i → x ≡ at → r ≡ n → to ≡ at + blockBytes p c → Repeats s (start + 6 + 8 * i) n o x r
+      → Trail p s start whole to (o + c) (k + 1)
 
 repeats-stop : (s : List ℕ) (from n o at r : ℕ) (more : List Entry) → r < n → Repeats s from n o at r
-    → judgeEntries (replicate n (o, at) ++ more) s from ≡ refused 7 (from + 8 * r)
+    → judgeEntries (replicate n (o, at) ++ more) s from ≡ refused jumpWrong (from + 8 * r)
 unfolding Repeats
 repeats-stop s from n o at r more h t = t more ∙ rw (lt-ltb r n h) refl
 
-repeats-on : (s : List ℕ) (from n o at : ℕ) (more : List Entry) → Repeats s from n o at n
+repeats-on : (s : List ℕ) (from n o at r : ℕ) (more : List Entry) → r ≡ n → Repeats s from n o at r
     → judgeEntries (replicate n (o, at) ++ more) s from ≡ judgeEntries more s (from + 8 * n)
 unfolding Repeats
-repeats-on s from n o at more t = t more ∙ rw (le-ltb n n (omega arith)) refl
+repeats-on s from n o at r more h t = t more ∙ rw (le-ltb r n (omega arith)) refl
 
 module _ (p : ℕ) (ok : Power p) (s : List ℕ) (start : ℕ) (whole : List Entry) where
   module _ (at o i : ℕ) (t : Trail p s start whole at o i) where
@@ -68,128 +68,102 @@ module _ (p : ℕ) (ok : Power p) (s : List ℕ) (start : ℕ) (whole : List Ent
       abbrev c : ℕ
       c = length (g .places)
 
-      abbrev more : List ℕ
-      more = bytesOf (blockOf p) gs ++ (endBlock ++ t .rest)
-
-      hp : p ≤ 16
-      hp = omega (arith, ok .most)
-
-      fine : AllFine (g ∷ gs)
-      fine = subst AllFine e (t .fine)
+      first : Ahead p s at g gs (t .rest)
+      first = ahead p (omega (arith, ok .most)) s at (t .rest) g gs (subst (λ (l : List Run). Stands p s at l (t .rest)) e (t .stands))
 
       asc : AscBlocks i (g ∷ gs)
       asc = subst (AscBlocks i) e (t .asc)
-
-      here : drop at s ≡ blockOf p g ++ more
-      unfolding bytesOf
-      here =
-          t .bytes ∙ ap (λ (l : List Run). bytesOf (blockOf p) l ++ (endBlock ++ t .rest)) e
-          ∙ append-assoc (blockOf p g) (bytesOf (blockOf p) gs) (endBlock ++ t .rest)
 
       total : start ≡ at + (blockBytes p c + totalBytes p gs)
       unfolding totalBytes
       total = t .total ∙ ap (λ (l : List Run). at + totalBytes p l) e
 
-      chain : judgeEntries whole s (start + 6)
-          ≡ judgeEntries (replicate (suc k - i) (o, at) ++ jumpsFrom p (suc k) (o + c) (at + blockBytes p c) gs) s (start + 6 + 8 * i)
+      -- the entries of the blocks after this one
+      abbrev more : List Entry
+      more = jumpsFrom p (suc k) (o + c) (at + blockBytes p c) gs
+
+      chain : (n x : ℕ) → n ≡ k + 1 - i → x ≡ at
+          → judgeEntries whole s (start + 6) ≡ judgeEntries (replicate n (o, x) ++ more) s (start + 6 + 8 * i)
       unfolding jumpsFrom
-      chain = t .same ∙ ap (λ (l : List Run). judgeEntries (jumpsFrom p i o at l) s (start + 6 + 8 * i)) e
-
-      fit : at + blockBytes p c ≤ length s
-      fit =
-          end-drop s at (blockBytes p c) (blockOf p g ++ more) here (omega (arith, length-append (blockOf p g) more, length-blockOf p g hp))
-          (omega (arith, block-total p c))
-
-      number : lowAt 2 s at ≡ k
-      number = low-is s at (blockOf p g ++ more) k here (the-number 0 p g more hp (fine .0))
-
-      count : lowAt 2 s (at + 2) + 1 ≡ c
-      count =
-          add-one (lowAt 2 s (at + 2))
-          ∙ ap suc (low-is s (at + 2) (drop 2 (blockOf p g ++ more)) _ (sym (drop-drop 2 at s) ∙ ap (drop 2) here) refl) ∙ the-count 0 p g more hp (fine .0)
-
-      the-stop : (n r : ℕ) → n ≡ k + 1 - i → r < n → Repeats s (start + 6 + 8 * i) n o at r
-          → refused 7 (start + 6 + 8 * i + 8 * r) ≡ judgeEntries whole s (start + 6)
-      the-stop n r q h v =
+      chain n x q h =
           let z : suc k - i ≡ n = omega arith in
-          sym (chain ∙ ap (λ (x : ℕ). judgeEntries (replicate x (o, at) ++ jumpsFrom p (suc k) (o + c) (at + blockBytes p c) gs) s (start + 6 + 8 * i)) z
-          ∙ repeats-stop s (start + 6 + 8 * i) n o at r (jumpsFrom p (suc k) (o + c) (at + blockBytes p c) gs) h v)
+          t .same ∙ ap (λ (l : List Run). judgeEntries (jumpsFrom p i o at l) s (start + 6 + 8 * i)) e
+          ∙ ap₂ (λ (m y : ℕ). judgeEntries (replicate m (o, y) ++ more) s (start + 6 + 8 * i)) z (sym h)
 
-      next : (n at′ : ℕ) → n ≡ k + 1 - i → at′ ≡ at + blockBytes p c → Repeats s (start + 6 + 8 * i) n o at n → Trail p s start whole at′ (o + c) (k + 1)
-      next n at′ q x v =
-          let z : suc k - i ≡ n = omega arith in
+      next : (n r x to : ℕ) → n ≡ k + 1 - i → x ≡ at → r ≡ n → to ≡ at + blockBytes p c → Repeats s (start + 6 + 8 * i) n o x r
+          → Trail p s start whole to (o + c) (k + 1)
+      next n r x to q h f d v =
           let y : start + 6 + 8 * i + 8 * n ≡ start + 6 + 8 * (k + 1) = omega (arith, asc .0) in
-          let cf : c ≤ 65536 = count-fits 0 p g more hp (fine .0) in
           record {
             gs = gs;
-            fine = fine .1;
-            asc = subst (λ (m : ℕ). AscBlocks m gs) (sym (add-one k)) (asc .1);
             rest = t .rest;
-            bytes =
-                ap (λ (m : ℕ). drop m s) x ∙ sym (drop-drop (blockBytes p c) at s) ∙ ap (drop (blockBytes p c)) here
-                ∙ drop-at (blockOf p g) more (blockBytes p c) (length-blockOf p g hp);
+            stands = subst (λ (m : ℕ). Stands p s m gs (t .rest)) (sym d) (first .after);
+            asc = subst (λ (m : ℕ). AscBlocks m gs) (sym (add-one k)) (asc .1);
             total = omega (arith, total);
             same =
-                chain ∙ ap (λ (m : ℕ). judgeEntries (replicate m (o, at) ++ jumpsFrom p (suc k) (o + c) (at + blockBytes p c) gs) s (start + 6 + 8 * i)) z
-                ∙ repeats-on s (start + 6 + 8 * i) n o at (jumpsFrom p (suc k) (o + c) (at + blockBytes p c) gs) v
+                chain n x q h ∙ repeats-on s (start + 6 + 8 * i) n o x r more f v
                 ∙ ap₂ (λ (m l : ℕ). judgeEntries (jumpsFrom p m (o + c) (at + blockBytes p c) gs) s l) (sym (add-one k)) y
-                ∙ ap (λ (m : ℕ). judgeEntries (jumpsFrom p (k + 1) (o + c) m gs) s (start + 6 + 8 * (k + 1))) (sym x);
-            few = omega (arith, t .few, asc .0);
+                ∙ ap (λ (m : ℕ). judgeEntries (jumpsFrom p (k + 1) (o + c) m gs) s (start + 6 + 8 * (k + 1))) (sym d);
+            few = omega (arith, t .few, asc .0, first .few);
             low = omega (arith, t .low, asc .0, block-le p c (rank-max p ok));
-            most = omega (arith, fine .0 .number);
+            most = omega (arith, first .fine .number);
             near = t .near;
           }
 
-      the-block : Here p s start whole at o i (lowAt 2 s at) (lowAt 2 s (at + 2) + 1)
-      the-block =
-          subst (λ (x : ℕ). Here p s start whole at o i x (lowAt 2 s (at + 2) + 1)) (sym number)
-          (subst (λ (x : ℕ). Here p s start whole at o i k x) (sym count)
+      the-block : (l m : ℕ) → l ≡ lowAt 2 s at → m ≡ lowAt 2 s (at + 2) + 1 → Here p s start whole at o i l m
+      the-block l m el em =
+          subst (λ (x : ℕ). Here p s start whole at o i x m) (sym (el ∙ first .number))
+          (subst (λ (x : ℕ). Here p s start whole at o i k x) (sym (em ∙ first .count))
           (record {
-            head = omega (arith, fit, block-total p c);
             after = asc .0;
-            most = omega (arith, fine .0 .number);
+            most = omega (arith, first .fine .number);
             inside = omega (arith, total);
-            stop = the-stop;
+            head = omega (arith, first .inside, block-total p c);
+            stop = λ n r x q y f v. sym (chain n x q y ∙ repeats-stop s (start + 6 + 8 * i) n o x r more f v);
             on = next;
           }))
 
-    pub trail-here : at < start → Here p s start whole at o i (lowAt 2 s at) (lowAt 2 s (at + 2) + 1)
+    pub trail-here : at < start → (k c : ℕ) → k ≡ lowAt 2 s at → c ≡ lowAt 2 s (at + 2) + 1 → Here p s start whole at o i k c
     unfolding totalBytes
-    trail-here h = go (t .gs) refl
+    trail-here h k c ek ec = go (t .gs) refl
       where
-        go : (l : List Run) → t .gs ≡ l → Here p s start whole at o i (lowAt 2 s at) (lowAt 2 s (at + 2) + 1)
+        go : (l : List Run) → t .gs ≡ l → Here p s start whole at o i k c
         go [] e = absurd (omega (arith, t .total, ap (totalBytes p) e))
-        go (g ∷ gs) e = the-block g gs e
+        go (g ∷ gs) e = the-block g gs e k c ek ec
 
-    none-left : start ≤ at → judgeEntries whole s (start + 6) ≡ judgeEntries ((o, at) ∷ []) s (start + 6 + 8 * i)
+    none-left : start ≤ at → (x : ℕ) → x ≡ at → judgeEntries whole s (start + 6) ≡ judgeEntries ((o, x) ∷ []) s (start + 6 + 8 * i)
     unfolding totalBytes jumpsFrom
-    none-left h = go (t .gs) refl
+    none-left h x q = go (t .gs) refl
       where
-        go : (l : List Run) → t .gs ≡ l → judgeEntries whole s (start + 6) ≡ judgeEntries ((o, at) ∷ []) s (start + 6 + 8 * i)
-        go [] e = t .same ∙ ap (λ (l : List Run). judgeEntries (jumpsFrom p i o at l) s (start + 6 + 8 * i)) e
+        go : (l : List Run) → t .gs ≡ l → judgeEntries whole s (start + 6) ≡ judgeEntries ((o, x) ∷ []) s (start + 6 + 8 * i)
+        go [] e =
+            t .same ∙ ap (λ (l : List Run). judgeEntries (jumpsFrom p i o at l) s (start + 6 + 8 * i)) e
+            ∙ ap (λ (y : ℕ). judgeEntries ((o, y) ∷ []) s (start + 6 + 8 * i)) (sym q)
         go (g ∷ gs) e = absurd (omega (arith, t .total, ap (totalBytes p) e, block-total p (length (g .places))))
 
-    pub last-right : start ≤ at → same (take 8 (drop (start + 6 + 8 * i) s)) (entryBytes (o, at)) ≡ true → done (start + 6 + 8 * i + 8) ≡ judgeEntries whole s (start + 6)
-    unfolding judgeEntries need
-    last-right h e = sym (none-left h ∙ rw e refl)
+    -- the end block's entry, which was found to be right, or wrong
+    module _ (h : start ≤ at) (x : ℕ) (q : x ≡ at) {r : Bool} (test : r ≡ same (take 8 (drop (start + 6 + 8 * i) s)) (entryBytes (o, x))) where
+      pub last-right : r ≡ true → done (start + 6 + 8 * i + 8) ≡ judgeEntries whole s (start + 6)
+      unfolding judgeEntries need
+      last-right e = let f = sym test ∙ e in sym (none-left h x q ∙ rw f refl)
 
-    pub last-wrong : start ≤ at → same (take 8 (drop (start + 6 + 8 * i) s)) (entryBytes (o, at)) ≡ false → refused 7 (start + 6 + 8 * i) ≡ judgeEntries whole s (start + 6)
-    unfolding judgeEntries need
-    last-wrong h e = sym (none-left h ∙ rw e refl)
+      pub last-wrong : r ≡ false → refused jumpWrong (start + 6 + 8 * i) ≡ judgeEntries whole s (start + 6)
+      unfolding judgeEntries need
+      last-wrong e = let f = sym test ∙ e in sym (none-left h x q ∙ rw f refl)
 
--- what the first walk leaves
+-- what the first pass leaves
 module _ (p : ℕ) (ok : Power p) (s : List ℕ) (u : Below 256 s) (e : Ended) (h : judgeFrom (suc (length s)) p s 0 0 0 ≡ done e) where
   b : Built p s 0 0 0 e
   b = built p ok s u (suc (length s)) 0 0 0 e h
 
   back : readRuns (length s) p s ≡ b .gs
-  back = runs-back p ok s (b .gs) (drop (e .start + 6) s) (b .fine) (b .bytes) (omega (arith, b .start, b .fits))
+  back = runs-back p ok s (b .gs) (drop (e .start + 6) s) (b .stands)
 
   pub end-fits : e .start + 6 ≤ length s
   end-fits = b .fits
 
   pub end-most : e .next ≤ 32766
-  end-most = subst (λ (n : ℕ). n ≤ 32766) (sym (b .after)) (end-le 0 (b .gs) zero-le (b .fine))
+  end-most = subst (λ (n : ℕ). n ≤ 32766) (sym (b .after)) (end-le 0 (b .gs) zero-le (b .stands .fine))
 
   pub jumps-long : length (jumpsFrom p 0 0 0 (readRuns (length s) p s)) ≡ e .next + 1
   jumps-long =
@@ -200,20 +174,13 @@ module _ (p : ℕ) (ok : Power p) (s : List ℕ) (u : Below 256 s) (e : Ended) (
   trail-begin =
       record {
         gs = b .gs;
-        fine = b .fine;
-        asc = b .asc;
         rest = drop (e .start + 6) s;
-        bytes = b .bytes;
+        stands = b .stands;
+        asc = b .asc;
         total = b .start;
         same = ap₂ (λ (l : List Run) (x : ℕ). judgeEntries (jumpsFrom p 0 0 0 l) s x) back (sym (add-zero (e .start + 6)));
         few = zero-le;
         low = zero-le;
         most = zero-le;
-        near = omega (arith, b .start, total-le p 0 (b .gs) (rank-max p ok) (b .asc), end-le 0 (b .gs) zero-le (b .fine));
+        near = omega (arith, b .start, total-le p 0 (b .gs) (rank-max p ok) (b .asc), end-le 0 (b .gs) zero-le (b .stands .fine));
       }
-
-pub repeats-moved : (s : List ℕ) (f n o x y r q : ℕ) → x ≡ y → r ≡ q → Repeats s f n o x r → Repeats s f n o y q
-repeats-moved s f n o x y r q e h t = subst (λ (z : ℕ). Repeats s f n o z q) e (subst (λ (z : ℕ). Repeats s f n o x z) h t)
-
-pub trail-as : (p : ℕ) (s : List ℕ) (start : ℕ) (whole : List Entry) (at o i o′ i′ : ℕ) → o ≡ o′ → i ≡ i′ → Trail p s start whole at o i → Trail p s start whole at o′ i′
-trail-as p s start whole at o i o′ i′ e h t = subst (λ (z : ℕ). Trail p s start whole at z i′) e (subst (λ (z : ℕ). Trail p s start whole at o z) h t)

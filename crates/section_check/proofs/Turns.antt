@@ -1,4 +1,5 @@
--- The turns of the judge's loops. Assumes nothing.
+-- The turns of the judge's loops. Over the blocks the loop keeps a fuel that will do, and that the judge from the start is the judge from here;
+-- over equal entries, that those passed were right. Assumes nothing.
 use mathlib.Core.Path.{_≡_, refl, sym, ap, ap₂, _∙_}
 use mathlib.Core.Bool.{Bool, true, false, cond, _&&_}
 use mathlib.Core.List.{List, _++_}
@@ -9,11 +10,13 @@ use native.Mathlib.Numerals.{add-one}
 use lib.Dec.{eqb, leb}
 use lib.ListN.{length, take, drop, replicate}
 use borrow.Author.Tests.{eq-eqb, ne-eqb, le-leb, lt-leb, lt-ltb, le-ltb, leb-true}
+use Rattle.format.specs.Limits.{maxBlock, endNumber}
 use Rattle.format.specs.Refusals.{Outcome, done, refused, need}
 use Rattle.format.specs.Bytes.{same, lowAt}
 use Rattle.format.specs.Ids.{Entry, dataBytes, blockBytes, endBlock, entryBytes}
 use Rattle.format.specs.Pairs.{Below}
 use Rattle.format.proofs.Cases.{equal-or}
+use Rattle.format.proofs.Sizes.{block-total}
 use Rattle.section_check.proofs.Bytes.{entry-same, end-same}
 use Rattle.judge.specs.Judge.{placesOk, onesOk, ranksOk, Ended, judgeEnd, judgeBlock, judgeFrom, judgeEntries}
 use Rattle.section_check.specs.Reasons.{blockReason, endReason, Repeats}
@@ -28,7 +31,7 @@ byReason (suc r) at more = refused (suc r) at
 pub block-is : (p : ℕ) (s : List ℕ) (at next k c : ℕ) (more : Outcome Ended) → judgeBlock p s at next k c more ≡ byReason (blockReason p s at next k c) at more
 unfolding judgeBlock blockReason byReason need
 block-is p s at next k c more =
-    go (leb (at + blockBytes p c) (length s)) (leb next k && leb k 32765) (placesOk s (at + 4) c) (onesOk p s (at + 4) c) (ranksOk p s (at + 4) c)
+    go (leb (at + blockBytes p c) (length s)) (leb next k && leb k maxBlock) (placesOk s (at + 4) c) (onesOk p s (at + 4) c) (ranksOk p s (at + 4) c)
   where
     go : (a b d e f : Bool) → need a 1 at (need b 2 at (need d 3 at (need e 4 at (need f 5 at more))))
         ≡ byReason (cond a (cond b (cond d (cond e (cond f 0 5) 4) 3) 2) 1) at more
@@ -43,7 +46,8 @@ pub end-is : (s : List ℕ) (at o next : ℕ) → judgeEnd s at o next ≡ byRea
 unfolding judgeEnd endReason byReason need
 end-is s at o next = go (leb (at + 6) (length s)) (same (take 6 (drop at s)) endBlock)
   where
-    go : (a b : Bool) → need a 1 at (need b 6 at (done (record { start = at; count = o; next = next }))) ≡ byReason (cond a (cond b 0 6) 1) at (done (record { start = at; count = o; next = next }))
+    go : (a b : Bool) → need a 1 at (need b 6 at (done (record { start = at; count = o; next = next })))
+        ≡ byReason (cond a (cond b 0 6) 1) at (done (record { start = at; count = o; next = next }))
     go false b = refl
     go true false = refl
     go true true = refl
@@ -62,25 +66,22 @@ a-reason (suc r) at more e = refl
 pub record Sound (p : ℕ) (s : List ℕ) (at next k c : ℕ) : Type 0 where
   pub fits : at + blockBytes p c ≤ length s
   pub after : next ≤ k
-  pub most : k ≤ 32765
+  pub most : k ≤ maxBlock
 
 pub sound : (p : ℕ) (s : List ℕ) (at next k c : ℕ) → blockReason p s at next k c ≡ 0 → Sound p s at next k c
 unfolding blockReason
 sound p s at next k c =
-    go (leb (at + blockBytes p c) (length s)) (leb next k) (leb k 32765) (placesOk s (at + 4) c) (onesOk p s (at + 4) c) (ranksOk p s (at + 4) c) refl refl refl
+    go (leb (at + blockBytes p c) (length s)) (leb next k) (leb k maxBlock) (placesOk s (at + 4) c) (onesOk p s (at + 4) c)
+    (ranksOk p s (at + 4) c) refl refl refl
   where
-    go : (a b b′ d e f : Bool) → leb (at + blockBytes p c) (length s) ≡ a → leb next k ≡ b → leb k 32765 ≡ b′
+    go : (a b b′ d e f : Bool) → leb (at + blockBytes p c) (length s) ≡ a → leb next k ≡ b → leb k maxBlock ≡ b′
         → _≡_ {A = ℕ} (cond a (cond (b && b′) (cond d (cond e (cond f 0 5) 4) 3) 2) 1) 0 → Sound p s at next k c
     go false b b′ d e f x y z q = absurd (omega arith)
     go true false b′ d e f x y z q = absurd (omega arith)
     go true true false d e f x y z q = absurd (omega arith)
     go true true true d e f x y z q = record { fits = leb-true _ _ x; after = leb-true _ _ y; most = leb-true _ _ z }
 
-pub block-total : (p c : ℕ) → blockBytes p c ≡ 4 + dataBytes p c
-unfolding blockBytes
-block-total p c = refl
-
--- ---- the walk
+-- ---- the blocks
 
 -- the judge stands at a place, with a count of blocks that will do
 pub record Turn (p : ℕ) (s : List ℕ) (at o next : ℕ) : Type 0 where
@@ -96,18 +97,19 @@ unfolding judgeFrom need
 from-short zero p s at o next h = refl
 from-short (suc f) p s at o next h = rw (lt-leb (at + 4) (length s) h)
 
-from-end : (f p : ℕ) (s : List ℕ) (at o next : ℕ) → at + 4 ≤ length s → length s < f + at → lowAt 2 s at ≡ 32767
+from-end : (f p : ℕ) (s : List ℕ) (at o next : ℕ) → at + 4 ≤ length s → length s < f + at → lowAt 2 s at ≡ endNumber
     → judgeFrom f p s at o next ≡ byReason (endReason s at) at (done (record { start = at; count = o; next = next }))
 unfolding judgeFrom need
 from-end zero p s at o next h l e = absurd (omega arith)
 from-end (suc f) p s at o next h l e = rw (le-leb (at + 4) (length s) h, e) (end-is s at o next)
 
-from-block : (f p : ℕ) (s : List ℕ) (at o next c : ℕ) → at + 4 ≤ length s → (lowAt 2 s at ≡ 32767 → ⊥) → c ≡ lowAt 2 s (at + 2) + 1
-    → judgeFrom (suc f) p s at o next ≡ byReason (blockReason p s at next (lowAt 2 s at) c) at (judgeFrom f p s (at + blockBytes p c) (o + c) (lowAt 2 s at + 1))
+from-block : (f p : ℕ) (s : List ℕ) (at o next c : ℕ) → at + 4 ≤ length s → (lowAt 2 s at ≡ endNumber → ⊥) → c ≡ lowAt 2 s (at + 2) + 1
+    → judgeFrom (suc f) p s at o next
+    ≡ byReason (blockReason p s at next (lowAt 2 s at) c) at (judgeFrom f p s (at + blockBytes p c) (o + c) (lowAt 2 s at + 1))
 unfolding judgeFrom need
 from-block f p s at o next c h e x =
     let y : suc (lowAt 2 s (at + 2)) ≡ c = omega arith in
-    rw (le-leb (at + 4) (length s) h, ne-eqb (lowAt 2 s at) 32767 e, y, add-one (lowAt 2 s at))
+    rw (le-leb (at + 4) (length s) h, ne-eqb (lowAt 2 s at) endNumber e, y, add-one (lowAt 2 s at))
     (block-is p s at next (lowAt 2 s at) c (judgeFrom f p s (at + blockBytes p c) (o + c) (suc (lowAt 2 s at))))
 
 module _ (p : ℕ) (s : List ℕ) (at o next : ℕ) (t : Turn p s at o next) where
@@ -115,14 +117,16 @@ module _ (p : ℕ) (s : List ℕ) (at o next : ℕ) (t : Turn p s at o next) whe
   turn-short h = sym (t .same ∙ from-short (t .fuel) p s at o next h)
 
   module _ (h : at + 4 ≤ length s) where
-    pub turn-end : (r : ℕ) → lowAt 2 s at ≡ 32767 → r ≡ endReason s at → r ≡ 0 → done (record { start = at; count = o; next = next }) ≡ judgeFrom (suc (length s)) p s 0 0 0
+    pub turn-end : (r : ℕ) → lowAt 2 s at ≡ endNumber → r ≡ endReason s at → r ≡ 0
+        → done (record { start = at; count = o; next = next }) ≡ judgeFrom (suc (length s)) p s 0 0 0
     turn-end r e q z = sym (t .same ∙ from-end (t .fuel) p s at o next h (t .enough) e ∙ no-reason (endReason s at) at _ (sym q ∙ z))
 
-    pub turn-bad-end : (r : ℕ) → lowAt 2 s at ≡ 32767 → r ≡ endReason s at → (r ≡ 0 → ⊥) → refused r at ≡ judgeFrom (suc (length s)) p s 0 0 0
+    pub turn-bad-end : (r : ℕ) → lowAt 2 s at ≡ endNumber → r ≡ endReason s at → (r ≡ 0 → ⊥) → refused r at ≡ judgeFrom (suc (length s)) p s 0 0 0
     turn-bad-end r e q z =
-        sym (t .same ∙ from-end (t .fuel) p s at o next h (t .enough) e ∙ ap (λ (x : ℕ). byReason x at (done (record { start = at; count = o; next = next }))) (sym q) ∙ a-reason r at _ z)
+        sym (t .same ∙ from-end (t .fuel) p s at o next h (t .enough) e
+        ∙ ap (λ (x : ℕ). byReason x at (done (record { start = at; count = o; next = next }))) (sym q) ∙ a-reason r at _ z)
 
-    module _ (c : ℕ) (k : ℕ) (ek : k ≡ lowAt 2 s at) (hk : k ≡ 32767 → ⊥) (ec : c ≡ lowAt 2 s (at + 2) + 1) where
+    module _ (c : ℕ) (k : ℕ) (ek : k ≡ lowAt 2 s at) (hk : k ≡ endNumber → ⊥) (ec : c ≡ lowAt 2 s (at + 2) + 1) where
       unrolled : (f : ℕ) → t .fuel ≡ suc f
           → judgeFrom (suc (length s)) p s 0 0 0 ≡ byReason (blockReason p s at next k c) at (judgeFrom f p s (at + blockBytes p c) (o + c) (k + 1))
       unrolled f e =
@@ -134,7 +138,8 @@ module _ (p : ℕ) (s : List ℕ) (at o next : ℕ) (t : Turn p s at o next) whe
 
       pub turn-bad : (r : ℕ) → r ≡ blockReason p s at next k c → (r ≡ 0 → ⊥) → refused r at ≡ judgeFrom (suc (length s)) p s 0 0 0
       turn-bad r q z =
-          sym (unrolled (t .fuel - 1) less ∙ ap (λ (x : ℕ). byReason x at (judgeFrom (t .fuel - 1) p s (at + blockBytes p c) (o + c) (k + 1))) (sym q) ∙ a-reason r at _ z)
+          sym (unrolled (t .fuel - 1) less ∙ ap (λ (x : ℕ). byReason x at (judgeFrom (t .fuel - 1) p s (at + blockBytes p c) (o + c) (k + 1))) (sym q)
+          ∙ a-reason r at _ z)
 
       pub turn-on : (at′ : ℕ) → at′ ≡ at + blockBytes p c → blockReason p s at next k c ≡ 0 → Turn p s at′ (o + c) (k + 1)
       turn-on at′ e q =
@@ -161,29 +166,36 @@ module _ (p : ℕ) (s : List ℕ) (at next k c : ℕ) where
     unfolding blockReason
     reason-low l = rw (fit, lt-leb next k l)
 
-    pub reason-high : next ≤ k → 32765 < k → 2 ≡ blockReason p s at next k c
+    pub reason-high : next ≤ k → maxBlock < k → 2 ≡ blockReason p s at next k c
     unfolding blockReason
-    reason-high l m = rw (fit, le-leb next k l, lt-leb k 32765 m)
+    reason-high l m = rw (fit, le-leb next k l, lt-leb k maxBlock m)
 
-    module _ (l : next ≤ k) (m : k ≤ 32765) where
+    module _ (l : next ≤ k) (m : k ≤ maxBlock) where
       pub reason-places : placesOk s (at + 4) c ≡ false → 3 ≡ blockReason p s at next k c
       unfolding blockReason
-      reason-places x = rw (fit, le-leb next k l, le-leb k 32765 m, x)
+      reason-places x = rw (fit, le-leb next k l, le-leb k maxBlock m, x)
 
-      pub reason-words : (r : ℕ) → placesOk s (at + 4) c ≡ true → r ≡ cond (onesOk p s (at + 4) c) (cond (ranksOk p s (at + 4) c) 0 5) 4 → r ≡ blockReason p s at next k c
+      pub reason-words : (r : ℕ) → placesOk s (at + 4) c ≡ true → r ≡ cond (onesOk p s (at + 4) c) (cond (ranksOk p s (at + 4) c) 0 5) 4
+          → r ≡ blockReason p s at next k c
       unfolding blockReason
-      reason-words r x e = rw (fit, le-leb next k l, le-leb k 32765 m, x) e
+      reason-words r x e = rw (fit, le-leb next k l, le-leb k maxBlock m, x) e
 
 pub end-cut : (s : List ℕ) (at : ℕ) → length s < at + 6 → 1 ≡ endReason s at
 unfolding endReason
 end-cut s at h = rw (lt-leb (at + 6) (length s) h)
 
-pub end-bad : (s : List ℕ) (at : ℕ) → Below 256 s → at + 6 ≤ length s → lowAt 4 s at < 4294967296 → (lowAt 4 s at ≡ 32767 → lowAt 2 s (at + 4) ≡ 65535 → ⊥) → 6 ≡ endReason s at
+pub end-bad : (s : List ℕ) (at : ℕ) → Below 256 s → at + 6 ≤ length s → lowAt 4 s at < 4294967296
+    → (lowAt 4 s at ≡ endNumber → lowAt 2 s (at + 4) ≡ 65535 → ⊥) → 6 ≡ endReason s at
 unfolding endReason
 end-bad s at u h l k =
-    rw (le-leb (at + 6) (length s) h, end-same s at u h, ne-eqb (lowAt 4 s at + 4294967296 * lowAt 2 s (at + 4)) 281470681776127 (λ e. k (omega arith) (omega arith)))
+    rw (
+      le-leb (at + 6) (length s) h,
+      end-same s at u h,
+      ne-eqb (lowAt 4 s at + 4294967296 * lowAt 2 s (at + 4)) 281470681776127
+          (λ e. k (omega arith) (omega arith)),
+    )
 
-pub end-good : (s : List ℕ) (at : ℕ) → Below 256 s → at + 6 ≤ length s → lowAt 4 s at ≡ 32767 → lowAt 2 s (at + 4) ≡ 65535 → 0 ≡ endReason s at
+pub end-good : (s : List ℕ) (at : ℕ) → Below 256 s → at + 6 ≤ length s → lowAt 4 s at ≡ endNumber → lowAt 2 s (at + 4) ≡ 65535 → 0 ≡ endReason s at
 unfolding endReason
 end-good s at u h e f =
     rw (le-leb (at + 6) (length s) h, end-same s at u h, eq-eqb (lowAt 4 s at + 4294967296 * lowAt 2 s (at + 4)) 281470681776127 (omega arith))
@@ -198,7 +210,8 @@ module _ (s : List ℕ) (b o a : ℕ) (u : Below 256 s) (h : b + 8 ≤ length s)
   entry-good x e f =
       equal-or x a
       (λ k. eq-eqb x a k ∙ sym (entry-same s b o a u h ho ha ∙ eq-eqb (lowAt 4 s b + 4294967296 * lowAt 4 s (b + 4)) (o + 4294967296 * a) (omega arith)))
-      (λ k. ne-eqb x a k ∙ sym (entry-same s b o a u h ho ha ∙ ne-eqb (lowAt 4 s b + 4294967296 * lowAt 4 s (b + 4)) (o + 4294967296 * a) (λ q. k (omega arith))))
+      (λ k. ne-eqb x a k ∙ sym
+      (entry-same s b o a u h ho ha ∙ ne-eqb (lowAt 4 s b + 4294967296 * lowAt 4 s (b + 4)) (o + 4294967296 * a) (λ q. k (omega arith))))
 
 -- ---- entries that repeat, in a loop
 

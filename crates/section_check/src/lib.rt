@@ -1,4 +1,4 @@
-// The judge of an id section: its blocks, its end block, its jump entries.
+// The judge of an id section (document 01, "Id section"): its blocks, its end block, its jump entries.
 ghost use mathlib.Core.Path.{_≡_};
 ghost use Prim.Native.Nat.{suc, _+_, _*_, _≤_, _<_};
 ghost use lib.ListN.{length, take, drop};
@@ -6,50 +6,74 @@ ghost use Rattle.format.specs.Refusals.{done};
 ghost use Rattle.format.specs.Bytes.{same};
 ghost use Rattle.format.specs.Ids.{entryBytes, jumpsFrom, notTwo};
 ghost use Rattle.format.specs.IdsRead.{readRuns};
-ghost use Rattle.format.specs.Limits.{Power};
-ghost use Rattle.judge.specs.Judge.{judgeFrom, judgeEntries, judgeRest, judge, judgeSection};
-ghost use Rattle.section_check.specs.Reasons.{blockReason, endReason, Repeats, endedAt, walkedOf, placedOf, judgedOf};
-use block_check::places_ok;
-use block_check::words_reason;
+ghost use Rattle.format.specs.Limits.{Power, blockPlaces};
+ghost use Rattle.judge.specs.Judge.{judgeFrom, judgeEntries, judgeRest, judge};
+ghost use Rattle.section_check.specs.Reasons.{blockReason, endReason, Repeats, endedAt, blocksOf, entriesOf, verdictOf};
+use block::places_ok;
+use block::words_reason;
+use blocks::Block;
 use blocks::data_bytes;
 use numbers::int_at;
 use numbers::long;
 use numbers::short_at;
 use numbers::size;
 
+mod block;
+
+// The block of the greatest id.
+const MAX_BLOCK: u64 = 32765;
+
+// Why a section is refused, as crate judge numbers it.
+pub const CUT_OFF: u64 = 1;
+
+pub const BLOCK_ORDER: u64 = 2;
+
+pub const PLACE_ORDER: u64 = 3;
+
+pub const ONES_UNLIKE: u64 = 4;
+
+pub const RANK_WRONG: u64 = 5;
+
+pub const END_WRONG: u64 = 6;
+
+pub const JUMP_WRONG: u64 = 7;
+
+pub const LEFT_OVER: u64 = 8;
+
 // The end block's start, the ids before it and the number after the last block; or a reason and a place.
-pub enum Walked {
-    End(usize, u64, u64),
+enum BlocksEnd {
+    At(usize, u64, u64),
     Fault(u64, usize),
 }
 
-// The place after the entries, or the first wrong one.
-pub enum Placed {
-    Right(usize),
+// The place after the jump entries, or that of the first wrong one.
+enum EntriesEnd {
+    At(usize),
     Wrong(usize),
 }
 
-pub enum Judged {
+// The number of ids; or a reason and a place.
+pub enum Verdict {
     Accepted(u64),
     Faulty(u64, usize),
 }
 
 fn block_reason(s: &[u8], at: usize, next: u64, k: u64, c: usize, p: usize) -> u64
-    requires { ⌜ (Power p) × (c ≤ 65536) × (at + 4 ≤ length (now s)) ⌝ }
+    requires { ⌜ (Power p) × (c ≤ blockPlaces) × (at + 4 ≤ length (now s)) ⌝ }
     ensures { λ r. ⌜ r ≡ blockReason p (now (s .entry)) at next k c ⌝ }
 {
     let t = at + 4;
     if s.len() - t < data_bytes(p, c) {
-        return 1;
+        return CUT_OFF;
     }
     if k < next {
-        return 2;
+        return BLOCK_ORDER;
     }
-    if k > 32765 {
-        return 2;
+    if k > MAX_BLOCK {
+        return BLOCK_ORDER;
     }
     if !places_ok(s, t, c, p) {
-        return 3;
+        return PLACE_ORDER;
     }
     words_reason(s, t, c, p)
 }
@@ -59,44 +83,44 @@ fn end_reason(s: &[u8], at: usize) -> u64
     ensures { λ r. ⌜ r ≡ endReason (now (s .entry)) at ⌝ }
 {
     if s.len() - at < 6 {
-        return 1;
+        return CUT_OFF;
     }
-    if int_at(s, at) != 32767 {
-        return 6;
+    if int_at(s, at) != Block::END {
+        return END_WRONG;
     }
     if short_at(s, at + 4) != 65535 {
-        return 6;
+        return END_WRONG;
     }
     0
 }
 
 // The blocks, one after the other.
-pub fn walk(s: &[u8], p: usize) -> Walked
+fn judge_blocks(s: &[u8], p: usize) -> BlocksEnd
     requires { ⌜ Power p ⌝ }
-    ensures { λ r. ⌜ walkedOf r ≡ judgeFrom (suc (length (now (s .entry)))) p (now (s .entry)) 0 0 0 ⌝ }
+    ensures { λ r. ⌜ blocksOf r ≡ judgeFrom (suc (length (now (s .entry)))) p (now (s .entry)) 0 0 0 ⌝ }
 {
     let mut at: usize = 0;
     let mut count: u64 = 0;
     let mut next: u64 = 0;
     while s.len() - at >= 4 {
         let k = short_at(s, at);
-        if k == 32767 {
+        if k == Block::END {
             let e = end_reason(s, at);
             if e != 0 {
-                return Walked::Fault(e, at);
+                return BlocksEnd::Fault(e, at);
             }
-            return Walked::End(at, count, next);
+            return BlocksEnd::At(at, count, next);
         }
         let c = short_at(s, at + 2) + 1;
         let r = block_reason(s, at, next, k, size(c), p);
         if r != 0 {
-            return Walked::Fault(r, at);
+            return BlocksEnd::Fault(r, at);
         }
         at = at + 4 + data_bytes(p, size(c));
         count += c;
         next = k + 1;
     }
-    Walked::Fault(1, at)
+    BlocksEnd::Fault(CUT_OFF, at)
 }
 
 fn entry_is(s: &[u8], b: usize, o: u64, at: u64) -> bool
@@ -131,11 +155,11 @@ fn repeated(s: &[u8], from: usize, n: usize, o: u64, at: u64) -> usize
     n
 }
 
-// The entries of the blocks, which were walked already.
-fn entries(s: &[u8], p: usize, start: usize, count: u64, next: u64) -> Placed
+// The entries of the blocks, which were judged already.
+fn judge_entries(s: &[u8], p: usize, start: usize, count: u64, next: u64) -> EntriesEnd
     requires { ⌜ (Power p) × (judgeFrom (suc (length (now s))) p (now s) 0 0 0 ≡ done (endedAt start count next)) ⌝ }
     ensures { λ r.
-        ⌜ placedOf r
+        ⌜ entriesOf r
         ≡ judgeEntries (jumpsFrom p 0 0 0 (readRuns (length (now (s .entry))) p (now (s .entry)))) (now (s .entry)) (start + 6) ⌝ }
 {
     let base = start + 6;
@@ -149,7 +173,7 @@ fn entries(s: &[u8], p: usize, start: usize, count: u64, next: u64) -> Placed
         let from = base + 8 * i;
         let r = repeated(s, from, n, o, long(at));
         if r < n {
-            return Placed::Wrong(from + 8 * r);
+            return EntriesEnd::Wrong(from + 8 * r);
         }
         at = at + 4 + data_bytes(p, size(c));
         o += c;
@@ -158,73 +182,54 @@ fn entries(s: &[u8], p: usize, start: usize, count: u64, next: u64) -> Placed
     let last = base + 8 * i;
     let right = entry_is(s, last, o, long(at));
     if right {
-        return Placed::Right(last + 8);
+        return EntriesEnd::At(last + 8);
     }
-    Placed::Wrong(last)
+    EntriesEnd::Wrong(last)
 }
 
 // What follows the end block.
-fn rest(s: &[u8], p: usize, j: usize, start: usize, count: u64, next: u64) -> Judged
+fn judge_rest(s: &[u8], p: usize, j: usize, start: usize, count: u64, next: u64) -> Verdict
     requires { ⌜ (Power p) × (judgeFrom (suc (length (now s))) p (now s) 0 0 0 ≡ done (endedAt start count next)) ⌝ }
     ensures { λ r.
-        ⌜ judgedOf r
+        ⌜ verdictOf r
         ≡ judgeRest (notTwo (jumpsFrom p 0 0 0 (readRuns (length (now (s .entry))) p (now (s .entry))))) j (now (s .entry)) (endedAt start count next) ⌝ }
 {
     let base = start + 6;
     let n = size(next) + 1;
     if n == 2 {
         if j != 0 {
-            return Judged::Faulty(7, base);
+            return Verdict::Faulty(JUMP_WRONG, base);
         }
         if base != s.len() {
-            return Judged::Faulty(8, base);
+            return Verdict::Faulty(LEFT_OVER, base);
         }
-        return Judged::Accepted(count);
+        return Verdict::Accepted(count);
     }
     if j != n {
-        return Judged::Faulty(7, base);
+        return Verdict::Faulty(JUMP_WRONG, base);
     }
-    let e = entries(s, p, start, count, next);
-    match e {
-        Placed::Wrong(b) => {
-            return Judged::Faulty(7, b);
+    let end = judge_entries(s, p, start, count, next);
+    match end {
+        EntriesEnd::Wrong(b) => {
+            return Verdict::Faulty(JUMP_WRONG, b);
         }
-        Placed::Right(b) => {
+        EntriesEnd::At(b) => {
             if b != s.len() {
-                return Judged::Faulty(8, b);
+                return Verdict::Faulty(LEFT_OVER, b);
             }
-            return Judged::Accepted(count);
+            return Verdict::Accepted(count);
         }
     }
 }
 
 // An id section of j jump entries, at an allowed power.
-pub fn judge(s: &[u8], p: usize, j: usize) -> Judged
+pub fn judge(s: &[u8], p: usize, j: usize) -> Verdict
     requires { ⌜ Power p ⌝ }
-    ensures { λ r. ⌜ judgedOf r ≡ judge p j (now (s .entry)) ⌝ }
+    ensures { λ r. ⌜ verdictOf r ≡ judge p j (now (s .entry)) ⌝ }
 {
-    let w = walk(s, p);
-    match w {
-        Walked::Fault(why, at) => Judged::Faulty(why, at),
-        Walked::End(start, count, next) => rest(s, p, j, start, count, next),
+    let end = judge_blocks(s, p);
+    match end {
+        BlocksEnd::Fault(why, at) => Verdict::Faulty(why, at),
+        BlocksEnd::At(start, count, next) => judge_rest(s, p, j, start, count, next),
     }
-}
-
-// The same at any power and entry count.
-pub fn judge_section(s: &[u8], p: usize, j: usize) -> Judged
-    ensures { λ r. ⌜ judgedOf r ≡ judgeSection p j (now (s .entry)) ⌝ }
-{
-    if j > 32767 {
-        return Judged::Faulty(10, 0);
-    }
-    if p > 15 {
-        return Judged::Faulty(10, 0);
-    }
-    if p == 0 {
-        return judge(s, p, j);
-    }
-    if p < 7 {
-        return Judged::Faulty(10, 0);
-    }
-    judge(s, p, j)
 }

@@ -20,7 +20,8 @@ use Rattle.format.specs.Walk.{walk, wordless, words, strideWords, listAnswer}
 use Rattle.format.specs.Replies.{replyOf, answerOf}
 use Rattle.format.specs.declared.Reply.{Reply}
 use Rattle.format.specs.declared.Answer.{Answer}
-use Rattle.format.proofs.Unique.{result, passed, accepted-is, its-count, written-valid}
+use Rattle.format.proofs.Tests.{result, passed}
+use Rattle.format.proofs.Unique.{accepted-is, its-count, written-valid}
 use Rattle.format.proofs.Demands.{written, checked, read-back, accepted-answers}
 
 -- ---- demand 1: a refused call changes no byte that it was lent
@@ -161,7 +162,8 @@ module _ (bytes : List ℕ) (c : Reply) (n : ℕ) (kept : replyOf c ≡ check by
 
   pub check-then-look-up : (id : ℕ) → id ≤ maxId → (a : Answer) → answerOf a ≡ lookUp bytes id
       → (answerOf a ≡ done (listAnswer (check-holds .opened .head .power) (check-holds .pairs .ids) (check-holds .pairs .values) id))
-      × (walk bytes (check-holds .opened) id ≡ wordless (listAnswer (check-holds .opened .head .power) (check-holds .pairs .ids) (check-holds .pairs .values) id))
+      × (walk bytes (check-holds .opened) id
+      ≡ wordless (listAnswer (check-holds .opened .head .power) (check-holds .pairs .ids) (check-holds .pairs .values) id))
       × (words (check-holds .opened .head .power) (check-holds .pairs .ids) id ≤ strideWords (check-holds .opened .head .power))
   check-then-look-up id h a k =
       let s = accepted-answers bytes (check-holds .opened) (check-holds .pairs) (check-holds .is-opened) (check-holds .is-accepted) id h in

@@ -1,15 +1,15 @@
 // Signalfern: score columns written, checked, read back and looked up. Each call can be handed any input at all; its promise fixes
 // the reply and every lent buffer afterwards by the definitions of crate format (document 01).
 ghost use mathlib.Core.Path.{_≡_};
-ghost use Prim.Native.Nat.{_≤_};
 ghost use lib.ListN.{length};
 ghost use Rattle.format.specs.Writer.{write, writeReply, writeOut};
 ghost use Rattle.format.specs.Check.{check, reading, readReply, idsAfter, valuesAfter};
+ghost use Rattle.format.specs.Refusals.{done};
+ghost use Rattle.format.specs.Opening.{Opened, openColumn};
 ghost use Rattle.format.specs.LookUp.{lookUp, lookUpIn};
-ghost use Rattle.format.specs.Walk.{strideWords};
+ghost use Rattle.format.specs.Walk.{FewWords};
 ghost use Rattle.format.specs.Replies.{replyOf, answerOf};
 ghost use Rattle.column.specs.Opened.{columnOf};
-ghost use Rattle.lookup.specs.Words.{wordsOf, FewWords};
 use column::Column;
 use format::Answer;
 use format::Reply;
@@ -18,7 +18,9 @@ use format::Reply;
 // order, each over the whole input before the next; a refusal changes nothing, and success exactly the column's bytes.
 pub fn write(ids: &[u32], values: &[i64], power: u32, out: &mut [u8]) -> Reply
     ensures replies { λ r. ⌜ replyOf r ≡ writeReply (write power (now (ids .entry)) (now (values .entry)) (length (now (out .entry)))) ⌝ }
-    ensures written { λ _. ⌜ now (out .exit) ≡ writeOut (write power (now (ids .entry)) (now (values .entry)) (length (now (out .entry)))) (now (out .entry)) ⌝ }
+    ensures written { λ _.
+        ⌜ now (out .exit)
+        ≡ writeOut (write power (now (ids .entry)) (now (values .entry)) (length (now (out .entry)))) (now (out .entry)) ⌝ }
 {
     writer::write(ids, values, power, out)
 }
@@ -34,8 +36,12 @@ pub fn check(bytes: &[u8]) -> Reply
 // verified before a place is written, and a refusal changes nothing.
 pub fn read(bytes: &[u8], ids: &mut [u32], values: &mut [i64]) -> Reply
     ensures replies { λ r. ⌜ replyOf r ≡ readReply (reading (now (bytes .entry)) (length (now (ids .entry))) (length (now (values .entry)))) ⌝ }
-    ensures ids_filled { λ _. ⌜ now (ids .exit) ≡ idsAfter (reading (now (bytes .entry)) (length (now (ids .entry))) (length (now (values .entry)))) (now (ids .entry)) ⌝ }
-    ensures values_filled { λ _. ⌜ now (values .exit) ≡ valuesAfter (reading (now (bytes .entry)) (length (now (ids .entry))) (length (now (values .entry)))) (now (values .entry)) ⌝ }
+    ensures ids_filled { λ _.
+        ⌜ now (ids .exit)
+        ≡ idsAfter (reading (now (bytes .entry)) (length (now (ids .entry))) (length (now (values .entry)))) (now (ids .entry)) ⌝ }
+    ensures values_filled { λ _.
+        ⌜ now (values .exit)
+        ≡ valuesAfter (reading (now (bytes .entry)) (length (now (ids .entry))) (length (now (values .entry)))) (now (values .entry)) ⌝ }
 {
     reader::read(bytes, ids, values)
 }
@@ -44,7 +50,7 @@ pub fn read(bytes: &[u8], ids: &mut [u32], values: &mut [i64]) -> Reply
 // one stride of words (or one block's, without ranks) and one value.
 pub fn look_up(bytes: &[u8], id: u32) -> Answer
     ensures answers { λ r. ⌜ answerOf r ≡ lookUp (now (bytes .entry)) id ⌝ }
-    ensures words { λ r. ⌜ FewWords (now (bytes .entry)) (answerOf r) ⌝ }
+    ensures words { λ r. ⌜ ((c : Opened) → openColumn (now (bytes .entry)) ≡ done c → FewWords (c .head .power) (answerOf r)) ⌝ }
 {
     lookup::look_up(bytes, id)
 }
@@ -53,7 +59,7 @@ pub fn look_up(bytes: &[u8], id: u32) -> Answer
 // are safe: 14, then 10 where they break a header rule, 11 where they do not fit these bytes, then 15.
 pub fn look_up_in(column: Column, bytes: &[u8], id: u32) -> Answer
     ensures answers { λ r. ⌜ answerOf r ≡ lookUpIn (now (bytes .entry)) (columnOf column) id ⌝ }
-    ensures words { λ r. ⌜ wordsOf (answerOf r) ≤ strideWords (column .power) ⌝ }
+    ensures words { λ r. ⌜ FewWords (column .power) (answerOf r) ⌝ }
 {
     lookup::look_up_in(column, bytes, id)
 }

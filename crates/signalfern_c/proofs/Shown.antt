@@ -30,6 +30,18 @@ module _ (why : Refusal) (a b : ℕ) (ea : a ≡ refusalNumber why) (eb : b ≡ 
       (columnC (openedOf r))
   refused-column r e =
       ap₂ {C = CColumn}
-      (λ (x y : ℕ). record { refusal = x; number = y; count = 0; power = 0; «id_bytes» = 0; «jump_count» = 0; bits = 0; least = 0; step = 0; «value_bytes» = 0; start = 0 })
+      (λ (x y : ℕ). record {
+        refusal = x;
+        number = y;
+        count = 0;
+        power = 0;
+        «id_bytes» = 0;
+        «jump_count» = 0;
+        bits = 0;
+        least = 0;
+        step = 0;
+        «value_bytes» = 0;
+        start = 0;
+      })
       ea eb
       ∙ ap (λ (x : Opened). columnC (openedOf x)) (sym e)

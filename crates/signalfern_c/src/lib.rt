@@ -4,8 +4,11 @@ ghost use mathlib.Core.Path.{_≡_};
 ghost use lib.ListN.{length};
 ghost use Rattle.format.specs.Writer.{write, writeReply, writeOut};
 ghost use Rattle.format.specs.Check.{check, reading, readReply, idsAfter, valuesAfter};
+ghost use Rattle.format.specs.Refusals.{done};
+ghost use Rattle.format.specs.Opening as Op;
 ghost use Rattle.format.specs.Opening.{openColumn};
 ghost use Rattle.format.specs.LookUp.{lookUp, lookUpIn};
+ghost use Rattle.format.specs.Walk.{FewWords};
 ghost use Rattle.format.specs.Replies.{replyOf, answerOf};
 ghost use Rattle.column.specs.Opened.{openedOf};
 ghost use Rattle.signalfern_c.specs.Boundary.{replyC, answerC, columnC, openedC};
@@ -135,7 +138,9 @@ pub extern "C" fn signalfern_write(
     out: &mut [u8],
 ) -> CReply
     ensures replies { λ r. ⌜ r ≡ replyC (writeReply (write power (now (ids .entry)) (now (values .entry)) (length (now (out .entry))))) ⌝ }
-    ensures written { λ _. ⌜ now (out .exit) ≡ writeOut (write power (now (ids .entry)) (now (values .entry)) (length (now (out .entry)))) (now (out .entry)) ⌝ }
+    ensures written { λ _.
+        ⌜ now (out .exit)
+        ≡ writeOut (write power (now (ids .entry)) (now (values .entry)) (length (now (out .entry)))) (now (out .entry)) ⌝ }
 {
     let reply = signalfern::write(ids, values, power, out);
     reply_c(reply)
@@ -152,8 +157,12 @@ pub extern "C" fn signalfern_check(bytes: &[u8]) -> CReply
 #[no_mangle]
 pub extern "C" fn signalfern_read(bytes: &[u8], ids: &mut [u32], values: &mut [i64]) -> CReply
     ensures replies { λ r. ⌜ r ≡ replyC (readReply (reading (now (bytes .entry)) (length (now (ids .entry))) (length (now (values .entry))))) ⌝ }
-    ensures filled { λ _. ⌜ now (ids .exit) ≡ idsAfter (reading (now (bytes .entry)) (length (now (ids .entry))) (length (now (values .entry)))) (now (ids .entry)) ⌝ }
-    ensures valued { λ _. ⌜ now (values .exit) ≡ valuesAfter (reading (now (bytes .entry)) (length (now (ids .entry))) (length (now (values .entry)))) (now (values .entry)) ⌝ }
+    ensures filled { λ _.
+        ⌜ now (ids .exit)
+        ≡ idsAfter (reading (now (bytes .entry)) (length (now (ids .entry))) (length (now (values .entry)))) (now (ids .entry)) ⌝ }
+    ensures valued { λ _.
+        ⌜ now (values .exit)
+        ≡ valuesAfter (reading (now (bytes .entry)) (length (now (ids .entry))) (length (now (values .entry)))) (now (values .entry)) ⌝ }
 {
     let reply = signalfern::read(bytes, ids, values);
     reply_c(reply)
@@ -161,7 +170,8 @@ pub extern "C" fn signalfern_read(bytes: &[u8], ids: &mut [u32], values: &mut [i
 
 #[no_mangle]
 pub extern "C" fn signalfern_look_up(bytes: &[u8], id: u32) -> CAnswer
-    ensures { λ r. ⌜ r ≡ answerC (lookUp (now (bytes .entry)) id) ⌝ }
+    ensures answers { λ r. ⌜ r ≡ answerC (lookUp (now (bytes .entry)) id) ⌝ }
+    ensures words { λ _. ⌜ ((c : Op.Opened) → openColumn (now (bytes .entry)) ≡ done c → FewWords (c .head .power) (lookUp (now (bytes .entry)) id)) ⌝ }
 {
     let answer = signalfern::look_up(bytes, id);
     answer_c(answer)
@@ -177,7 +187,8 @@ pub extern "C" fn signalfern_open(bytes: &[u8]) -> CColumn
 
 #[no_mangle]
 pub extern "C" fn signalfern_look_up_in(column: CColumn, bytes: &[u8], id: u32) -> CAnswer
-    ensures { λ r. ⌜ r ≡ answerC (lookUpIn (now (bytes .entry)) (openedC column) id) ⌝ }
+    ensures answers { λ r. ⌜ r ≡ answerC (lookUpIn (now (bytes .entry)) (openedC column) id) ⌝ }
+    ensures words { λ _. ⌜ FewWords (column .power) (lookUpIn (now (bytes .entry)) (openedC column) id) ⌝ }
 {
     let c = Column {
         count: column.count,

@@ -2,18 +2,17 @@
 -- Assumes nothing.
 use mathlib.Core.Path.{_≡_, ap, _∙_}
 use mathlib.Core.Bool.{not}
-use Prim.Native.Nat.{ℕ, zero, suc, _+_, _-_, _/_, _%_, _^_, _<_, _≤_}
+use Prim.Native.Nat.{ℕ, zero, suc, _+_, _-_, _^_, _<_, _≤_}
 use native.Mathlib.Nat.{add-sub-cancel-left}
 use native.Mathlib.Omega.{arith}
-use native.Mathlib.Decide.{decLt, ℕ-discrete}
-use borrow.Author.Tests.{lt-ltb, le-ltb, eq-eqb, ne-eqb}
+use native.Mathlib.Decide.{decLt}
+use borrow.Author.Tests.{lt-ltb, le-ltb}
 use lib.Dec.{T, leb→le, nleb→lt}
 use lib.IntN.{ℤ, pos, negsuc, natAbs, subℕ, _+ℤ_}
 use lib.Signed.{mag, leZ}
 use mir.Syntax.{w64}
 use mir.Val.{toZ, ofZ}
 use mir.Facts.{toZ-ofZ}
-use Rattle.format.specs.HeaderNumbers.{unzigzag}
 use Rattle.format.specs.Values.{over}
 use Rattle.signed.specs.Sign.{biased, unbiased}
 
@@ -24,12 +23,6 @@ un-low x h = rw (lt-ltb x (2 ^ 63))
 
 pub un-high : (x : ℕ) → 2 ^ 63 ≤ x → unbiased x ≡ pos (x - 2 ^ 63)
 un-high x h = rw (le-ltb x (2 ^ 63))
-
-pub un-even : (x : ℕ) → x % 2 ≡ 0 → unzigzag x ≡ pos (x / 2)
-un-even x h = rw (eq-eqb (x % 2) 0)
-
-pub un-odd : (x : ℕ) → (x % 2 ≡ 0 → ⊥) → unzigzag x ≡ negsuc (x / 2)
-un-odd x h = rw (ne-eqb (x % 2) 0)
 
 -- ---- laws
 
@@ -44,14 +37,6 @@ biased-unbiased x = by (decLt x (2 ^ 63))
     by : Dec (x < 2 ^ 63) → biased (unbiased x) ≡ x
     by (yes h) = rw (un-low x h) (omega arith)
     by (no f) = let h : 2 ^ 63 ≤ x = omega arith in rw (un-high x h) (omega arith)
-
--- a header number below 2^64 stands for a signed number of 64 bits
-pub unzigzag-fits : (x : ℕ) → x < 2 ^ 64 → mag (unzigzag x) < 2 ^ 63
-unzigzag-fits x h = by (ℕ-discrete (x % 2) 0)
-  where
-    by : Dec (x % 2 ≡ 0) → mag (unzigzag x) < 2 ^ 63
-    by (yes e) = rw (un-even x e) (omega arith)
-    by (no f) = rw (un-odd x f) (omega arith)
 
 -- the magnitude, worked out from the biased form
 pub magnitude-low : (z : ℤ) (b : ℕ) → mag z < 2 ^ 63 → b ≡ biased z → b < 2 ^ 63 → 2 ^ 63 - b ≡ natAbs z

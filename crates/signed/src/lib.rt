@@ -53,19 +53,6 @@ pub fn number_of(b: u64) -> u64
     }
 }
 
-// Document 01, "Header": 2v for v >= 0 and -2v-1 for v < 0.
-pub fn zigzag(v: i64) -> u64
-    ensures { λ r. ⌜ r ≡ zigzag v ⌝ }
-{
-    number_of(biased(v))
-}
-
-pub fn unzigzag(number: u64) -> i64
-    ensures { λ r. ⌜ r ≡ unzigzag number ⌝ }
-{
-    unbiased(biased_of(number))
-}
-
 // v without its sign.
 pub fn magnitude(v: i64) -> u64
     ensures { λ r. ⌜ r ≡ natAbs v ⌝ }

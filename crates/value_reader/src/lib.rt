@@ -1,14 +1,14 @@
 // The values of an accepted value section, written into a lent buffer (document 01, "Value section").
 ghost use mathlib.Core.Path.{_≡_};
 ghost use mathlib.Core.List.{_++_};
-ghost use Prim.Native.Nat.{ℕ, _+_, _*_, _^_, _≤_, _<_};
+ghost use Prim.Native.Nat.{_+_, _*_, _^_, _≤_, _<_};
 ghost use lib.ListN.{length, drop, set};
 ghost use lib.Seq.{sets};
 ghost use Rattle.format.specs.Bits.{unpacked};
 ghost use Rattle.format.specs.Pairs.{Each, Fits};
-ghost use Rattle.filling.proofs.Fill.{Fill};
+ghost use Rattle.format.specs.Stores.{Fill};
 ghost use Rattle.signed.specs.Sign.{unbiased};
-ghost use Rattle.value_reader.specs.Stored.{valuesOf, FourFit, fourOf};
+ghost use Rattle.value_reader.specs.Stored.{valuesOf, cut, FourFit, fourOf};
 
 // The value of a stored number, where it fits; `low` is the smallest value, biased.
 fn value_from(low: u64, step: u64, stored: u64) -> i64
@@ -18,12 +18,12 @@ fn value_from(low: u64, step: u64, stored: u64) -> i64
     signed::unbiased(low + stored * step)
 }
 
-// Stores the value of a stored number, where it fits.
-fn put_value(values: &mut [i64], i: usize, low: u64, step: u64, stored: u64)
-    requires { ⌜ (i < length (now values)) × (low + stored * step < 2 ^ 64) ⌝ }
-    ensures { λ _. ⌜ now (values .exit) ≡ set (now (values .entry)) i (unbiased (low + stored * step)) ⌝ }
+// Stores the value of the number in the w bits of x after its first skip ones, where it fits.
+fn put_part(values: &mut [i64], i: usize, x: u64, skip: usize, w: usize, low: u64, step: u64)
+    requires { ⌜ (0 < w) × (skip + w ≤ 64) × (i < length (now values)) × (low + cut x skip w * step < 2 ^ 64) ⌝ }
+    ensures { λ _. ⌜ now (values .exit) ≡ set (now (values .entry)) i (unbiased (low + cut x skip w * step)) ⌝ }
 {
-    let v = value_from(low, step, stored);
+    let v = value_from(low, step, packing::middle(x, skip, w));
     values[i] = v;
 }
 
@@ -32,14 +32,10 @@ fn put_four(values: &mut [i64], i: usize, x: u64, w: usize, low: u64, step: u64)
     requires { ⌜ (0 < w) × (w ≤ 14) × (i + 4 ≤ length (now values)) × (FourFit low step x w) ⌝ }
     ensures { λ _. ⌜ now (values .exit) ≡ sets (now (values .entry)) i (fourOf low step x w) ⌝ }
 {
-    let x0 = packing::middle(x, 0, w);
-    let x1 = packing::middle(x, w, w);
-    let x2 = packing::middle(x, 2 * w, w);
-    let x3 = packing::middle(x, 3 * w, w);
-    put_value(values, i, low, step, x0);
-    put_value(values, i + 1, low, step, x1);
-    put_value(values, i + 2, low, step, x2);
-    put_value(values, i + 3, low, step, x3);
+    put_part(values, i, x, 0, w, low, step);
+    put_part(values, i + 1, x, w, w, low, step);
+    put_part(values, i + 2, x, 2 * w, w, low, step);
+    put_part(values, i + 3, x, 3 * w, w, low, step);
 }
 
 // The first of the values, four from one window, up to the last 64; none for a width that no four of fit a window. Says how many.

@@ -10,6 +10,10 @@ ghost use Rattle.format.specs.Bits.{packedBytes, fetched};
 ghost use Rattle.format.specs.Values.{spread, gcd, gcdOf, divisor, bitLength, valueSection, valueAt};
 ghost use Rattle.values.specs.Summed.{EndsOf, Summed};
 ghost use Rattle.values.specs.Kept.{kept};
+ghost use Rattle.values.specs.Reciprocal.{Reciprocal};
+
+// 2^32: numbers below it have a product below 2^64.
+const SMALL: u64 = 4294967296;
 
 // The smallest and the greatest value, biased.
 pub struct Ends {
@@ -81,33 +85,33 @@ pub fn gcd(a: u64, b: u64) -> u64
     x
 }
 
-// 2^32 / d, rounded down, 0 if d is 0: with it a division by d is two products. Most columns have divisor 1.
+// 2^32 / d, rounded down, 0 if d is 0: with it a division by d is two products.
 pub fn reciprocal(d: u64) -> u64
-    ensures { λ r. ⌜ (r * d ≤ 4294967296) × (r ≤ 4294967296) ⌝ }
+    ensures { λ r. ⌜ Reciprocal d r ⌝ }
 {
     if d == 0 {
         return 0;
     }
     if d == 1 {
-        return 4294967296;
+        return SMALL;
     }
-    4294967296 / d
+    SMALL / d
 }
 
 // The reciprocal of h, where m is that of g.
 pub fn renewed(m: u64, g: u64, h: u64) -> u64
-    requires { ⌜ (m * g ≤ 4294967296) × (m ≤ 4294967296) ⌝ }
-    ensures { λ r. ⌜ (r * h ≤ 4294967296) × (r ≤ 4294967296) ⌝ }
+    requires { ⌜ Reciprocal g m ⌝ }
+    ensures { λ r. ⌜ Reciprocal h r ⌝ }
 {
     if h == g { m } else { reciprocal(h) }
 }
 
 // The greatest common divisor; without a division if it is g.
 pub fn common(g: u64, m: u64, x: u64) -> u64
-    requires { ⌜ (m * g ≤ 4294967296) × (m ≤ 4294967296) ⌝ }
+    requires { ⌜ Reciprocal g m ⌝ }
     ensures { λ r. ⌜ r ≡ gcd g x ⌝ }
 {
-    if x < 4294967296 {
+    if x < SMALL {
         let r = x - ((x * m) >> 32) * g;
         if r == 0 {
             return g;
@@ -181,13 +185,13 @@ pub fn summary_of(values: &[i64]) -> Summary
 
 // x / d; m is the reciprocal of d. Most columns have divisor 1, and a division is slow.
 fn quotient(x: u64, d: u64, m: u64) -> u64
-    requires { ⌜ (0 < d) × (m * d ≤ 4294967296) × (m ≤ 4294967296) ⌝ }
+    requires { ⌜ (0 < d) × Reciprocal d m ⌝ }
     ensures { λ r. ⌜ r ≡ x / d ⌝ }
 {
     if d == 1 {
         return x;
     }
-    if x < 4294967296 {
+    if x < SMALL {
         let q = (x * m) >> 32;
         let r = x - q * d;
         if r < d {
@@ -232,8 +236,8 @@ pub fn product_fits(stored: u64, step: u64, room: u64) -> bool
     if step == 1 {
         return stored <= room;
     }
-    if stored < 4294967296 {
-        if step < 4294967296 {
+    if stored < SMALL {
+        if step < SMALL {
             return stored * step <= room;
         }
     }

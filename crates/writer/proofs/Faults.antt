@@ -1,15 +1,18 @@
 -- The turns of the loops that look for a fault. Assumes nothing.
 use mathlib.Core.Path.{_≡_, refl}
-use native.Mathlib.Omega.{arith}
-use Rattle.format.specs.Pairs.{Asc}
-use Rattle.section_writer.proofs.Runs.{asc-from}
-use mathlib.Core.Option.{none, some}
+use mathlib.Core.Bool.{true, false}
 use mathlib.Core.List.{List, [], _∷_}
-use Prim.Native.Nat.{ℕ, zero, suc, _+_, _-_, _≤_, _<_}
+use mathlib.Core.Option.{none, some}
+use Prim.Native.Nat.{ℕ, zero, suc, _+_, _≤_, _<_}
 use native.Mathlib.Numerals.{add-one}
+use native.Mathlib.Omega.{arith}
+use lib.Dec.{leb}
 use lib.ListN.{length, getD, drop, drop-of-length-le}
 use lib.Seq.{drop-cons}
-use borrow.Author.Tests.{lt-ltb, le-ltb, le-leb, lt-leb}
+use borrow.Author.Tests.{lt-ltb, le-ltb, le-leb}
+use Rattle.format.specs.Limits.{maxId}
+use Rattle.format.specs.Pairs.{Asc}
+use Rattle.format.proofs.Places.{asc-from}
 use Rattle.format.specs.Writer.{notAbove, orderFault, rangeFault}
 
 -- ---- the loops
@@ -36,19 +39,19 @@ module _ (ids : List ℕ) (i : ℕ) where
   unfolding rangeFault
   range-end h = rw (drop-of-length-le ids h)
 
-  pub range-more : i < length ids → getD ids i 0 ≤ 2147352575 → rangeFault i (drop i ids) ≡ rangeFault (i + 1) (drop (i + 1) ids)
+  pub range-more : i < length ids → leb (getD ids i 0) maxId ≡ true → rangeFault i (drop i ids) ≡ rangeFault (i + 1) (drop (i + 1) ids)
   unfolding rangeFault
-  range-more h k = rw (drop-cons ids i 0 h, le-leb (getD ids i 0) 2147352575 k, add-one i)
+  range-more h k = rw (drop-cons ids i 0 h, k, add-one i)
 
-  pub range-here : i < length ids → 2147352575 < getD ids i 0 → rangeFault i (drop i ids) ≡ some i
+  pub range-here : i < length ids → leb (getD ids i 0) maxId ≡ false → rangeFault i (drop i ids) ≡ some i
   unfolding rangeFault
-  range-here h k = rw (drop-cons ids i 0 h, lt-leb (getD ids i 0) 2147352575 k)
+  range-here h k = rw (drop-cons ids i 0 h, k)
 
 -- ids that ascend up to one within the limit are all within it
-pub in-limit : (i a n : ℕ) (ids : List ℕ) → Asc a ids → length ids ≡ suc n → getD ids n 0 ≤ 2147352575 → rangeFault i ids ≡ none
+pub in-limit : (i a n : ℕ) (ids : List ℕ) → Asc a ids → length ids ≡ suc n → getD ids n 0 ≤ maxId → rangeFault i ids ≡ none
 unfolding rangeFault
 in-limit i a n [] t e h = absurd (omega arith)
-in-limit i a zero (x ∷ []) t e h = rw (le-leb x 2147352575 h)
+in-limit i a zero (x ∷ []) t e h = rw (le-leb x maxId h)
 in-limit i a zero (x ∷ y ∷ ys) t e h = absurd (omega arith)
 in-limit i a (suc n) (x ∷ xs) t e h =
-    rw (le-leb x 2147352575 (omega (arith, asc-from (suc x) xs n (t .1) (omega arith)))) (in-limit (suc i) (suc x) n xs (t .1) (omega arith) h)
+    rw (le-leb x maxId (omega (arith, asc-from (suc x) xs n (t .1) (omega arith)))) (in-limit (suc i) (suc x) n xs (t .1) (omega arith) h)

@@ -13,15 +13,6 @@ put-head-requires c κs =
     let a = s .args in
     (omega (arith, s .pre .0 .some-place, length-places (a .part .now)), omega arith)
 
-add-put-data : tie.Need-add-put-data
-add-put-data c = search needs
-
-put-data-requires : tie.Need-put-data-requires
-put-data-requires c κs = search needs
-
-same-length : tie.Need-same-length
-same-length c = search needs
-
 returns : tie.Need-returns
 returns c =
     let s = c .before .before .before .before .before .before .before .before .before .before in
@@ -30,4 +21,4 @@ returns c =
 
 pub put-block-spec : {M : Type 1} → statement M
 put-block-spec =
-    tie.close (tie.spec put-head-requires add-put-data put-data-requires same-length returns)
+    tie.close (tie.spec put-head-requires (λ c. search needs) (λ c κs. search needs) (λ c. search needs) returns)

@@ -5,14 +5,8 @@ use Rattle.format.proofs.Sizes.{block-total}
 use Rattle.blocks.proofs.block_bytes.Statement.{statement}
 use Rattle.blocks.proofs.block_bytes.Tie as tie
 
-data-bytes-requires : tie.Need-data-bytes-requires
-data-bytes-requires c κs = search needs
-
-add-result : tie.Need-add-result
-add-result c = search needs
-
 returns : tie.Need-returns
 returns c = let a = c .before .args in (omega (arith, block-total (a .p) (a .c)), omega arith)
 
 pub block-bytes-spec : {M : Type 1} → statement M
-block-bytes-spec = tie.close (tie.spec data-bytes-requires add-result returns)
+block-bytes-spec = tie.close (tie.spec (λ c κs. search needs) (λ c. search needs) returns)

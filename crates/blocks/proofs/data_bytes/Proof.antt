@@ -1,23 +1,13 @@
 -- `blocks::data_bytes` meets its contract. Assumes nothing.
 use mathlib.Core.Path.{sym}
-use Prim.Native.Nat.{_-_}
 use native.Mathlib.Omega.{arith}
 use borrow.Author.Needs.{needs}
 use Rattle.format.proofs.Sizes.{data-sparse, data-dense, data-all}
 use Rattle.blocks.proofs.data_bytes.Statement.{statement}
 use Rattle.blocks.proofs.data_bytes.Tie as tie
 
-mul-result : tie.Need-mul-result
-mul-result c = search needs
-
 returns : tie.Need-returns
 returns c = let a = c .before .args in (sym (data-sparse (a .p) (a .c) (omega arith)), omega arith)
-
-rank-bytes-requires : tie.Need-rank-bytes-requires
-rank-bytes-requires c κs = search needs
-
-add-result : tie.Need-add-result
-add-result c = search needs
 
 returns-2 : tie.Need-returns-2
 returns-2 c = let a = c .before .before .before .args in (omega (arith, data-dense (a .p) (a .c) (omega arith) (omega arith)), omega arith)
@@ -27,4 +17,4 @@ returns-3 c = let a = c .before .before .args in (sym (data-all (a .p) (a .c) (o
 
 pub data-bytes-spec : {M : Type 1} → statement M
 data-bytes-spec =
-    tie.close (tie.spec mul-result returns rank-bytes-requires add-result returns-2 returns-3)
+    tie.close (tie.spec (λ c. search needs) returns (λ c κs. search needs) (λ c. search needs) returns-2 returns-3)

@@ -1,7 +1,6 @@
 -- `blocks::kind_of` meets its contract. Assumes nothing.
 use native.Mathlib.Omega.{arith}
 use mathlib.Core.Path.{sym}
-use Prim.Native.Nat.{_-_}
 use Rattle.format.proofs.Blocks.{kind-sparse, kind-dense, kind-all}
 use Rattle.blocks.proofs.kind_of.Statement.{statement}
 use Rattle.blocks.proofs.kind_of.Tie as tie

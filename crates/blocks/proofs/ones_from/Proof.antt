@@ -19,35 +19,18 @@ abbrev μ-loop : tie.MeasureT-loop
 loop-holds : tie.Need-loop-holds Inv-loop μ-loop
 loop-holds c = let a = c .before .args in (zero-add _ ∙ ones-begin (a .s .now) (a .m) (a .n) (a .first), omega arith, omega arith)
 
-add-long-at : tie.Need-add-long-at Inv-loop μ-loop
-add-long-at c = search needs
-
-mul-long-at : tie.Need-mul-long-at Inv-loop μ-loop
-mul-long-at c = search needs
-
-add-long-at-2 : tie.Need-add-long-at-2 Inv-loop μ-loop
-add-long-at-2 c = search needs
-
-long-at-requires : tie.Need-long-at-requires Inv-loop μ-loop
-long-at-requires c κs = search needs
-
-ones-of-requires : tie.Need-ones-of-requires Inv-loop μ-loop
-ones-of-requires c κs = search needs
-
-add-sum : tie.Need-add-sum Inv-loop μ-loop
-add-sum c = search needs
-
-add-i : tie.Need-add-i Inv-loop μ-loop
-add-i c = search needs
-
-loop-less : tie.Need-loop-less Inv-loop μ-loop
-loop-less c = search needs
-
 loop-again : tie.Need-loop-again Inv-loop μ-loop
-loop-again c = let a = c .before .before .before .before .before .args in let l = c .before .before .before .loop in let e = c .ones-of .ensures .0 in let f = c .before .long-at .ensures in (omega (arith, l .inv .0, ones-on (a .s .now) (a .m) (a .n) (l .i) (a .first) (omega arith), e ∙ ap (onesIn 64) f), omega arith, omega arith)
+loop-again c =
+    let a = c .before .before .before .before .before .args in
+    let l = c .before .before .before .loop in
+    let one = c .ones-of .ensures .0 ∙ ap (onesIn 64) (c .before .long-at .ensures) in
+    (omega (arith, l .inv .0, ones-on (a .s .now) (a .m) (a .n) (l .i) (a .first) (omega arith), one), omega arith, omega arith)
 
 returns : tie.Need-returns Inv-loop μ-loop
-returns c = let a = c .before .before .before .args in let l = c .before .loop in (omega (arith, l .inv .0, ones-end (a .s .now) (a .m) (a .n) (l .i) (a .first + l .i) (omega arith)), omega arith)
+returns c =
+    let a = c .before .before .before .args in
+    let l = c .before .loop in
+    (omega (arith, l .inv .0, ones-end (a .s .now) (a .m) (a .n) (l .i) (a .first + l .i) (omega arith)), omega arith)
 
 pub ones-from-spec : {M : Type 1} → statement M
 ones-from-spec =
@@ -56,13 +39,13 @@ ones-from-spec =
     Inv-loop
     μ-loop
     loop-holds
-    add-long-at
-    mul-long-at
-    add-long-at-2
-    long-at-requires
-    ones-of-requires
-    add-sum
-    add-i
-    loop-less
+    (λ c. search needs)
+    (λ c. search needs)
+    (λ c. search needs)
+    (λ c κs. search needs)
+    (λ c κs. search needs)
+    (λ c. search needs)
+    (λ c. search needs)
+    (λ c. search needs)
     loop-again
     returns)

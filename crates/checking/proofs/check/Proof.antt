@@ -7,17 +7,9 @@ use borrow.Author.Needs.{needs}
 use Rattle.checking.proofs.check.Statement.{statement}
 use Rattle.checking.proofs.check.Tie as tie
 
-open-requires : tie.Need-open-requires
-open-requires c κs = search needs
-
-enum-known-why : tie.Need-enum-known-why
-enum-known-why c = search needs
-
-enum-known-c : tie.Need-enum-known-c
-enum-known-c c = search needs
-
 accepts-requires : tie.Need-accepts-requires
-accepts-requires c κs = let o = c .before .before .before in opened-as _ (o .«open» .result) (c .before .c .given .0 .0) (o .«open» .ensures) (c .before .c .given .1)
+accepts-requires c κs =
+    let o = c .before .before .before in opened-as _ (o .«open» .result) (c .before .c .given .0 .0) (o .«open» .ensures) (c .before .c .given .1)
 
 returns : tie.Need-returns
 returns c =
@@ -27,7 +19,10 @@ returns c =
     (sym (c .before .accepts .ensures) ∙ not-true (c .before .accepts .result) (c .if1 .taken))
 
 returns-2 : tie.Need-returns-2
-returns-2 c = let o = c .before .before .before in check-refused (o .before .before .args .bytes .now) _ _ (refused-as _ (o .«open» .result) (c .before .why .given .0 .0) (o .«open» .ensures) (c .before .why .given .1))
+returns-2 c =
+    let o = c .before .before .before in
+    check-refused (o .before .before .args .bytes .now) _ _
+    (refused-as _ (o .«open» .result) (c .before .why .given .0 .0) (o .«open» .ensures) (c .before .why .given .1))
 
 returns-3 : tie.Need-returns-3
 returns-3 c =
@@ -40,9 +35,9 @@ pub check-spec : {M : Type 1} → statement M
 check-spec =
     tie.close
     (tie.spec
-    open-requires
-    enum-known-why
-    enum-known-c
+    (λ c κs. search needs)
+    (λ c. search needs)
+    (λ c. search needs)
     accepts-requires
     returns
     returns-2

@@ -1,7 +1,7 @@
 -- `checking::ids_ok` meets its contract. Assumes nothing.
 use mathlib.Core.Path.{sym, ap, _∙_, subst}
 use Rattle.format.specs.Limits.{Power}
-use Rattle.section_check.specs.Reasons.{judgedOf}
+use Rattle.section_check.specs.Reasons.{verdictOf}
 use Rattle.column.specs.Opened.{columnOf}
 use Rattle.checking.specs.Tests.{holds}
 use Rattle.checking.proofs.Steps.{ids-judged}
@@ -9,43 +9,33 @@ use borrow.Author.Needs.{needs}
 use Rattle.checking.proofs.ids_ok.Statement.{statement}
 use Rattle.checking.proofs.ids_ok.Tie as tie
 
-size-requires : tie.Need-size-requires
-size-requires c κs = search needs
-
-size-requires-2 : tie.Need-size-requires-2
-size-requires-2 c κs = search needs
-
 judge-requires : tie.Need-judge-requires
 judge-requires c κs = subst Power (sym (c .before .size .ensures)) (c .before .before .before .pre .power)
-
-enum-known-n : tie.Need-enum-known-n
-enum-known-n c = search needs
-
-enum-told : tie.Need-enum-told
-enum-told c = search needs
 
 returns : tie.Need-returns
 unfolding holds
 returns c =
     let j = c .before .before .before .before in
     let st = j .before .before .before .before in
-    sym (ids-judged (columnOf (st .args .c) .head) (st .args .section .now) _ _ (j .before .before .size .ensures) (j .before .size2 .ensures) _ (sym (j .judge .ensures) ∙ ap judgedOf (c .before .before .n .given .1)))
+    sym (ids-judged (columnOf (st .args .c) .head) (st .args .section .now) _ _ (j .before .before .size .ensures) (j .before .size2 .ensures) _
+    (sym (j .judge .ensures) ∙ ap verdictOf (c .before .before .n .given .1)))
 
 returns-2 : tie.Need-returns-2
 unfolding holds
 returns-2 c =
     let j = c .before .before in
     let st = j .before .before .before .before in
-    sym (ids-judged (columnOf (st .args .c) .head) (st .args .section .now) _ _ (j .before .before .size .ensures) (j .before .size2 .ensures) _ (sym (j .judge .ensures) ∙ ap judgedOf (c .enum-told .given .1)))
+    sym (ids-judged (columnOf (st .args .c) .head) (st .args .section .now) _ _ (j .before .before .size .ensures) (j .before .size2 .ensures) _
+    (sym (j .judge .ensures) ∙ ap verdictOf (c .enum-told .given .1)))
 
 pub ids-ok-spec : {M : Type 1} → statement M
 ids-ok-spec =
     tie.close
     (tie.spec
-    size-requires
-    size-requires-2
+    (λ c κs. search needs)
+    (λ c κs. search needs)
     judge-requires
-    enum-known-n
-    enum-told
+    (λ c. search needs)
+    (λ c. search needs)
     returns
     returns-2)

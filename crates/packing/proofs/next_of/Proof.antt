@@ -4,7 +4,8 @@ use Prim.Native.Nat.{ℕ, _+_, _*_}
 use native.Mathlib.Omega.{arith}
 use lib.ListN.{length}
 use Rattle.format.specs.Bits.{bitAt, gather, fetched}
-use Rattle.packing.proofs.Join.{window-inside, number-inside}
+use Rattle.format.proofs.Bits.{within}
+use Rattle.packing.proofs.Join.{window-inside}
 use borrow.Author.Needs.{needs}
 use Rattle.packing.proofs.next_of.Statement.{statement}
 use Rattle.packing.proofs.next_of.Tie as tie
@@ -27,7 +28,7 @@ fetch-requires : tie.Need-fetch-requires
 fetch-requires c κs =
     let s = c .before .before in
     let a = s .args in
-    (s .pre .0, number-inside (a .i) (a .n) (a .w) (8 * length (a .s .now)) (s .pre .1) (s .pre .2))
+    (s .pre .0, omega (arith, within (a .i) (a .w) (a .n) (s .pre .1)))
 
 pub next-of-spec : {M : Type 1} → statement M
 next-of-spec =

@@ -8,15 +8,6 @@ use Rattle.reader.proofs.Answers.{refused-so, not-opened}
 use Rattle.reader.proofs.read.Statement.{statement}
 use Rattle.reader.proofs.read.Tie as tie
 
-open-requires : tie.Need-open-requires
-open-requires c κs = search needs
-
-enum-known-why : tie.Need-enum-known-why
-enum-known-why c = search needs
-
-enum-known-c : tie.Need-enum-known-c
-enum-known-c c = search needs
-
 read-opened-requires : tie.Need-read-opened-requires
 read-opened-requires c κs =
     let v = c .before .before .before in
@@ -30,15 +21,10 @@ returns c =
     let a = o .before .before .before .args in
     let t =
     refused-so _ (Rp.Reply.Refused (v .why .given .0 .0)) _ _ (a .ids .now) (a .values .now)
-    (not-opened (a .bytes .now) (length (a .ids .now)) (length (a .values .now)) _ _ (refused-as _ (o .«open» .result) (v .why .given .0 .0) (o .«open» .ensures) (v .why .given .1)))
+    (not-opened (a .bytes .now) (length (a .ids .now)) (length (a .values .now)) _ _
+    (refused-as _ (o .«open» .result) (v .why .given .0 .0) (o .«open» .ensures) (v .why .given .1)))
     refl in
     (t .reply, (t .in-ids, t .in-values))
-
-same-length : tie.Need-same-length
-same-length c = search needs
-
-same-length-2 : tie.Need-same-length-2
-same-length-2 c = search needs
 
 returns-2 : tie.Need-returns-2
 returns-2 c =
@@ -49,11 +35,11 @@ pub read-spec : {M : Type 1} → statement M
 read-spec =
     tie.close
     (tie.spec
-    open-requires
-    enum-known-why
-    enum-known-c
+    (λ c κs. search needs)
+    (λ c. search needs)
+    (λ c. search needs)
     read-opened-requires
     returns
-    same-length
-    same-length-2
+    (λ c. search needs)
+    (λ c. search needs)
     returns-2)

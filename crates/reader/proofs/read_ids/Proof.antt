@@ -6,9 +6,9 @@ use borrow.Author.Needs.{needs}
 use lib.ListN.{take, drop}
 use Rattle.format.specs.Pairs.{Below}
 use Rattle.format.specs.Opening.{idPart}
-use Rattle.column.specs.Facts.{Sound}
+use Rattle.format.specs.Rules.{Sound}
 use Rattle.column.specs.Opened.{columnOf}
-use Rattle.column.proofs.Facts.{sound}
+use Rattle.format.proofs.Open.{sound}
 use Rattle.format.proofs.Digits.{below-all}
 use Rattle.reader.proofs.Decoded.{id-slice, ids-asked, ids-given}
 use Rattle.reader.proofs.read_ids.Statement.{statement}
@@ -22,30 +22,16 @@ column c = sound (c .args .bytes .now) (columnOf (c .args .c)) (c .pre .0 .opens
 
 -- the part that is lent
 part : (c : tie.After-size2) → let a = c .before .before .before .before .args in
-    take (c .before .size .result + c .size2 .result - c .before .size .result) (drop (c .before .size .result) (a .bytes .now)) ≡ idPart (a .bytes .now) (columnOf (a .c))
+    take (c .before .size .result + c .size2 .result - c .before .size .result) (drop (c .before .size .result) (a .bytes .now))
+    ≡ idPart (a .bytes .now) (columnOf (a .c))
 part c =
     let s = c .before .before .before .before in
     id-slice (s .args .bytes .now) (columnOf (s .args .c)) (bytes-fit (c .before .before .before)) (s .pre .0) (c .before .size .result)
     (c .before .size .result + c .size2 .result) (c .before .size .ensures)
     (ap₂ (λ (x y : ℕ). x + y) (c .before .size .ensures) (c .size2 .ensures))
 
-size-requires : tie.Need-size-requires
-size-requires c κs = search needs
-
-size-requires-2 : tie.Need-size-requires-2
-size-requires-2 c κs = search needs
-
 add-end : tie.Need-add-end
 add-end c = omega (arith, column (c .before .before .before .before) .whole)
-
-size-requires-3 : tie.Need-size-requires-3
-size-requires-3 c κs = search needs
-
-sub-fill-ids : tie.Need-sub-fill-ids
-sub-fill-ids c = search needs
-
-part-fill-ids-start : tie.Need-part-fill-ids-start
-part-fill-ids-start c = search needs
 
 part-fill-ids-end : tie.Need-part-fill-ids-end
 part-fill-ids-end c = omega (arith, column (c .before .before .before .before .before .before) .whole)
@@ -57,28 +43,26 @@ fill-ids-requires c κs =
     let s = k .before in
     ids-asked (s .args .bytes .now) (columnOf (s .args .c)) (bytes-fit k) (s .pre .0) _ (r .size3 .result) (part (r .before)) (r .size3 .ensures) _ (s .pre .1)
 
-same-length : tie.Need-same-length
-same-length c = search needs
-
 returns : tie.Need-returns
 returns c =
     let r = c .before .before .before .before .before in
     let k = r .before .before .before .before in
     let s = k .before in
     c .before .before .fill-ids .ensures
-    ∙ ids-given (s .args .bytes .now) (columnOf (s .args .c)) (bytes-fit k) (s .pre .0) _ (r .size3 .result) (part (r .before)) (r .size3 .ensures) (s .args .ids .now)
+    ∙ ids-given (s .args .bytes .now) (columnOf (s .args .c)) (bytes-fit k) (s .pre .0) _ (r .size3 .result) (part (r .before)) (r .size3 .ensures)
+    (s .args .ids .now)
 
 pub read-ids-spec : {M : Type 1} → statement M
 read-ids-spec =
     tie.close
     (tie.spec
-    size-requires
-    size-requires-2
+    (λ c κs. search needs)
+    (λ c κs. search needs)
     add-end
-    size-requires-3
-    sub-fill-ids
-    part-fill-ids-start
+    (λ c κs. search needs)
+    (λ c. search needs)
+    (λ c. search needs)
     part-fill-ids-end
     fill-ids-requires
-    same-length
+    (λ c. search needs)
     returns)

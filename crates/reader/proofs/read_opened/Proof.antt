@@ -12,9 +12,6 @@ use Rattle.reader.proofs.Answers.{refused-so, damaged, whole, done-so, 
 use Rattle.reader.proofs.read_opened.Statement.{statement}
 use Rattle.reader.proofs.read_opened.Tie as tie
 
-size-requires : tie.Need-size-requires
-size-requires c κs = search needs
-
 returns : tie.Need-returns
 returns c =
     let s = c .before .before .before .before in
@@ -28,9 +25,6 @@ returns-2 c =
     let a = s .args in
     refused-so _ _ _ _ (a .ids .now) (a .values .now)
     (few-values (a .bytes .now) (length (a .ids .now)) (length (a .values .now)) (columnOf (a .c)) (s .pre) (omega arith) (omega arith)) refl
-
-accepts-requires : tie.Need-accepts-requires
-accepts-requires c κs = search needs
 
 returns-3 : tie.Need-returns-3
 returns-3 c =
@@ -52,12 +46,6 @@ read-ids-requires c κs = (taken (c .before), omega arith)
 read-values-requires : tie.Need-read-values-requires
 read-values-requires c κs = (taken (c .before .before .before .before .before), omega arith)
 
-same-length : tie.Need-same-length
-same-length c = search needs
-
-same-length-2 : tie.Need-same-length-2
-same-length-2 c = search needs
-
 returns-4 : tie.Need-returns-4
 returns-4 c =
     let e = c .before .before .before .before .before .before .before in
@@ -74,13 +62,13 @@ pub read-opened-spec : {M : Type 1} → statement M
 read-opened-spec =
     tie.close
     (tie.spec
-    size-requires
+    (λ c κs. search needs)
     returns
     returns-2
-    accepts-requires
+    (λ c κs. search needs)
     returns-3
     read-ids-requires
     read-values-requires
-    same-length
-    same-length-2
+    (λ c. search needs)
+    (λ c. search needs)
     returns-4)

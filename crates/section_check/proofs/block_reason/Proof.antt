@@ -1,6 +1,5 @@
 -- `section_check::block_reason` meets its contract. Assumes nothing.
 use mathlib.Core.Path.{sym, _∙_}
-use Prim.Native.Nat.{_-_}
 use native.Mathlib.Omega.{arith}
 use borrow.Author.Needs.{needs}
 use Rattle.section_check.proofs.Turns.{reason-cut, reason-low, reason-high, reason-places, reason-words}
@@ -8,32 +7,28 @@ use borrow.Author.Tests.{not-true, not-false}
 use Rattle.section_check.proofs.block_reason.Statement.{statement}
 use Rattle.section_check.proofs.block_reason.Tie as tie
 
-add-t : tie.Need-add-t
-add-t c = search needs
-
-sub-if1 : tie.Need-sub-if1
-sub-if1 c = search needs
-
-data-bytes-requires : tie.Need-data-bytes-requires
-data-bytes-requires c κs = search needs
-
 returns : tie.Need-returns
-returns c = let a = c .before .before .before .args in let e = c .before .data-bytes .ensures .0 in reason-cut (a .p) (a .s .now) (a .at) (a .next) (a .k) (a .c) (omega arith)
+returns c =
+    let a = c .before .before .before .args in
+    let e = c .before .data-bytes .ensures .0 in reason-cut (a .p) (a .s .now) (a .at) (a .next) (a .k) (a .c) (omega arith)
 
 returns-2 : tie.Need-returns-2
-returns-2 c = let a = c .before .before .before .before .args in let e = c .before .before .data-bytes .ensures .0 in reason-low (a .p) (a .s .now) (a .at) (a .next) (a .k) (a .c) (omega arith) (omega arith)
+returns-2 c =
+    let a = c .before .before .before .before .args in
+    let e = c .before .before .data-bytes .ensures .0 in reason-low (a .p) (a .s .now) (a .at) (a .next) (a .k) (a .c) (omega arith) (omega arith)
 
 returns-3 : tie.Need-returns-3
-returns-3 c = let a = c .before .before .before .before .before .args in let e = c .before .before .before .data-bytes .ensures .0 in reason-high (a .p) (a .s .now) (a .at) (a .next) (a .k) (a .c) (omega arith) (omega arith) (omega arith)
-
-places-ok-requires : tie.Need-places-ok-requires
-places-ok-requires c κs = search needs
+returns-3 c =
+    let a = c .before .before .before .before .before .args in
+    let e = c .before .before .before .data-bytes .ensures .0 in
+    reason-high (a .p) (a .s .now) (a .at) (a .next) (a .k) (a .c) (omega arith) (omega arith) (omega arith)
 
 returns-4 : tie.Need-returns-4
-returns-4 c = let a = c .before .before .before .before .before .before .before .args in let e = c .before .before .before .before .before .data-bytes .ensures .0 in reason-places (a .p) (a .s .now) (a .at) (a .next) (a .k) (a .c) (omega arith) (omega arith) (omega arith) (sym (c .before .places-ok .ensures) ∙ not-true _ (c .if4 .taken))
-
-words-reason-requires : tie.Need-words-reason-requires
-words-reason-requires c κs = search needs
+returns-4 c =
+    let a = c .before .before .before .before .before .before .before .args in
+    let e = c .before .before .before .before .before .data-bytes .ensures .0 in
+    reason-places (a .p) (a .s .now) (a .at) (a .next) (a .k) (a .c) (omega arith) (omega arith) (omega arith)
+    (sym (c .before .places-ok .ensures) ∙ not-true _ (c .if4 .taken))
 
 returns-5 : tie.Need-returns-5
 returns-5 c =
@@ -41,19 +36,20 @@ returns-5 c =
     let d = b .before .before .before .before in
     let a = d .before .before .args in
     let e = d .data-bytes .ensures .0 in
-    reason-words (a .p) (a .s .now) (a .at) (a .next) (a .k) (a .c) (omega arith) (omega arith) (omega arith) _ (sym (b .places-ok .ensures) ∙ not-false _ (c .before .if4 .left)) (c .words-reason .ensures)
+    reason-words (a .p) (a .s .now) (a .at) (a .next) (a .k) (a .c) (omega arith) (omega arith) (omega arith) _
+    (sym (b .places-ok .ensures) ∙ not-false _ (c .before .if4 .left)) (c .words-reason .ensures)
 
 pub block-reason-spec : {M : Type 1} → statement M
 block-reason-spec =
     tie.close
     (tie.spec
-    add-t
-    sub-if1
-    data-bytes-requires
+    (λ c. search needs)
+    (λ c. search needs)
+    (λ c κs. search needs)
     returns
     returns-2
     returns-3
-    places-ok-requires
+    (λ c κs. search needs)
     returns-4
-    words-reason-requires
+    (λ c κs. search needs)
     returns-5)

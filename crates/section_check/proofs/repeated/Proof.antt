@@ -17,29 +17,28 @@ abbrev μ-loop : tie.MeasureT-loop
 loop-holds : tie.Need-loop-holds Inv-loop μ-loop
 loop-holds c = let a = c .before .args in (kept-begin (a .s .now) (a .from) (a .n) (a .o) (a .at), omega arith)
 
-mul-entry-is : tie.Need-mul-entry-is Inv-loop μ-loop
-mul-entry-is c = search needs
-
-add-entry-is : tie.Need-add-entry-is Inv-loop μ-loop
-add-entry-is c = search needs
-
-entry-is-requires : tie.Need-entry-is-requires Inv-loop μ-loop
-entry-is-requires c κs = search needs
-
 returns : tie.Need-returns Inv-loop μ-loop
-returns c = let a = c .before .before .before .before .before .args in let l = c .before .before .before .loop in (omega arith, kept-stop (a .s .now) (a .from) (a .n) (a .o) (a .at) (l .i) (l .inv .0) (omega arith) (sym (c .before .entry-is .ensures) ∙ not-true _ (c .if1 .taken)))
-
-add-i : tie.Need-add-i Inv-loop μ-loop
-add-i c = search needs
-
-loop-less : tie.Need-loop-less Inv-loop μ-loop
-loop-less c = search needs
+returns c =
+    let a = c .before .before .before .before .before .args in
+    let l = c .before .before .before .loop in (
+      omega arith,
+      kept-stop (a .s .now) (a .from) (a .n) (a .o) (a .at) (l .i) (l .inv .0) (omega arith)
+          (sym (c .before .entry-is .ensures) ∙ not-true _ (c .if1 .taken)),
+    )
 
 loop-again : tie.Need-loop-again Inv-loop μ-loop
-loop-again c = let a = c .before .before .before .before .before .args in let l = c .before .before .before .loop in (kept-on (a .s .now) (a .from) (a .n) (a .o) (a .at) (l .i) (l .inv .0) (omega arith) (sym (c .before .entry-is .ensures) ∙ not-false _ (c .if1 .left)), omega arith)
+loop-again c =
+    let a = c .before .before .before .before .before .args in
+    let l = c .before .before .before .loop in (
+      kept-on (a .s .now) (a .from) (a .n) (a .o) (a .at) (l .i) (l .inv .0) (omega arith)
+          (sym (c .before .entry-is .ensures) ∙ not-false _ (c .if1 .left)),
+      omega arith,
+    )
 
 returns-2 : tie.Need-returns-2 Inv-loop μ-loop
-returns-2 c = let a = c .before .before .before .args in let l = c .before .loop in (omega arith, kept-end (a .s .now) (a .from) (a .n) (a .o) (a .at) (l .i) (l .inv .0) (omega arith))
+returns-2 c =
+    let a = c .before .before .before .args in
+    let l = c .before .loop in (omega arith, kept-end (a .s .now) (a .from) (a .n) (a .o) (a .at) (l .i) (l .inv .0) (omega arith))
 
 pub repeated-spec : {M : Type 1} → statement M
 repeated-spec =
@@ -48,11 +47,11 @@ repeated-spec =
     Inv-loop
     μ-loop
     loop-holds
-    mul-entry-is
-    add-entry-is
-    entry-is-requires
+    (λ c. search needs)
+    (λ c. search needs)
+    (λ c κs. search needs)
     returns
-    add-i
-    loop-less
+    (λ c. search needs)
+    (λ c. search needs)
     loop-again
     returns-2)

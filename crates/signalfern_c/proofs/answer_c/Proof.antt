@@ -10,23 +10,10 @@ use Rattle.format.specs.Replies.{answerOf}
 use Rattle.signalfern_c.proofs.answer_c.Statement.{statement}
 use Rattle.signalfern_c.proofs.answer_c.Tie as tie
 
-enum-known-answer : tie.Need-enum-known-answer
-enum-known-answer c = search needs
-
-enum-known-answer-2 : tie.Need-enum-known-answer-2
-enum-known-answer-2 c = search needs
-
-enum-known-answer-3 : tie.Need-enum-known-answer-3
-enum-known-answer-3 c = search needs
-
-number-requires : tie.Need-number-requires
-number-requires c κs = search needs
-
-number-with-requires : tie.Need-number-with-requires
-number-with-requires c κs = search needs
-
 returns : tie.Need-returns
-returns c = rw (toZ-ofZ {w = w64} {z = c .before .answer .given .0 .1 .0} (search needs)) (ap (λ (x : Answer). answerC (answerOf x)) (sym (c .before .answer .given .1)))
+returns c =
+    rw (toZ-ofZ {w = w64} {z = c .before .answer .given .0 .1 .0} (search needs))
+    (ap (λ (x : Answer). answerC (answerOf x)) (sym (c .before .answer .given .1)))
 
 returns-2 : tie.Need-returns-2
 returns-2 c = ap (λ (x : Answer). answerC (answerOf x)) (sym (c .before .answer2 .given .1))
@@ -38,11 +25,11 @@ pub answer-c-spec : {M : Type 1} → statement M
 answer-c-spec =
     tie.close
     (tie.spec
-    enum-known-answer
-    enum-known-answer-2
-    enum-known-answer-3
-    number-requires
-    number-with-requires
+    (λ c. search needs)
+    (λ c. search needs)
+    (λ c. search needs)
+    (λ c κs. search needs)
+    (λ c κs. search needs)
     returns
     returns-2
     returns-3)

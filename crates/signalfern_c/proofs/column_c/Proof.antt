@@ -8,18 +8,6 @@ use Rattle.column.specs.Opened.{openedOf}
 use Rattle.signalfern_c.proofs.column_c.Statement.{statement}
 use Rattle.signalfern_c.proofs.column_c.Tie as tie
 
-enum-known-opened : tie.Need-enum-known-opened
-enum-known-opened c = search needs
-
-enum-known-opened-2 : tie.Need-enum-known-opened-2
-enum-known-opened-2 c = search needs
-
-number-requires : tie.Need-number-requires
-number-requires c κs = search needs
-
-number-with-requires : tie.Need-number-with-requires
-number-with-requires c κs = search needs
-
 returns : tie.Need-returns
 returns c = ap (λ (x : Opened). columnC (openedOf x)) (sym (c .before .opened .given .1))
 
@@ -30,9 +18,9 @@ pub column-c-spec : {M : Type 1} → statement M
 column-c-spec =
     tie.close
     (tie.spec
-    enum-known-opened
-    enum-known-opened-2
-    number-requires
-    number-with-requires
+    (λ c. search needs)
+    (λ c. search needs)
+    (λ c κs. search needs)
+    (λ c κs. search needs)
     returns
     returns-2)

@@ -8,18 +8,6 @@ use Rattle.format.specs.Replies.{replyOf}
 use Rattle.signalfern_c.proofs.reply_c.Statement.{statement}
 use Rattle.signalfern_c.proofs.reply_c.Tie as tie
 
-enum-known-reply : tie.Need-enum-known-reply
-enum-known-reply c = search needs
-
-enum-known-reply-2 : tie.Need-enum-known-reply-2
-enum-known-reply-2 c = search needs
-
-number-requires : tie.Need-number-requires
-number-requires c κs = search needs
-
-number-with-requires : tie.Need-number-with-requires
-number-with-requires c κs = search needs
-
 returns : tie.Need-returns
 returns c = ap (λ (x : Reply). replyC (replyOf x)) (sym (c .before .reply .given .1))
 
@@ -30,9 +18,9 @@ pub reply-c-spec : {M : Type 1} → statement M
 reply-c-spec =
     tie.close
     (tie.spec
-    enum-known-reply
-    enum-known-reply-2
-    number-requires
-    number-with-requires
+    (λ c. search needs)
+    (λ c. search needs)
+    (λ c κs. search needs)
+    (λ c κs. search needs)
     returns
     returns-2)

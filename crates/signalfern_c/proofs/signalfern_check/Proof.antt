@@ -5,14 +5,8 @@ use Rattle.signalfern_c.specs.Boundary.{replyC}
 use Rattle.signalfern_c.proofs.signalfern_check.Statement.{statement}
 use Rattle.signalfern_c.proofs.signalfern_check.Tie as tie
 
-check-requires : tie.Need-check-requires
-check-requires c κs = search needs
-
-reply-c-requires : tie.Need-reply-c-requires
-reply-c-requires c κs = search needs
-
 returns : tie.Need-returns
 returns c = c .reply-c .ensures ∙ ap replyC (c .before .check .ensures)
 
 pub signalfern-check-spec : {M : Type 1} → statement M
-signalfern-check-spec = tie.close (tie.spec check-requires reply-c-requires returns)
+signalfern-check-spec = tie.close (tie.spec (λ c κs. search needs) (λ c κs. search needs) returns)

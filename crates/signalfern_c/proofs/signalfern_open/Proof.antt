@@ -5,14 +5,8 @@ use Rattle.signalfern_c.specs.Boundary.{columnC}
 use Rattle.signalfern_c.proofs.signalfern_open.Statement.{statement}
 use Rattle.signalfern_c.proofs.signalfern_open.Tie as tie
 
-open-requires : tie.Need-open-requires
-open-requires c κs = search needs
-
-column-c-requires : tie.Need-column-c-requires
-column-c-requires c κs = search needs
-
 returns : tie.Need-returns
 returns c = c .column-c .ensures ∙ ap columnC (c .before .«open» .ensures)
 
 pub signalfern-open-spec : {M : Type 1} → statement M
-signalfern-open-spec = tie.close (tie.spec open-requires column-c-requires returns)
+signalfern-open-spec = tie.close (tie.spec (λ c κs. search needs) (λ c κs. search needs) returns)

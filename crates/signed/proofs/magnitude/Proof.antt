@@ -7,12 +7,6 @@ use Rattle.signed.proofs.Signs.{magnitude-low, magnitude-high}
 use Rattle.signed.proofs.magnitude.Statement.{statement}
 use Rattle.signed.proofs.magnitude.Tie as tie
 
-biased-requires : tie.Need-biased-requires
-biased-requires c κs = search needs
-
-sub-result : tie.Need-sub-result
-sub-result c = search needs
-
 returns : tie.Need-returns
 returns c =
     let s = c .before .before in
@@ -24,4 +18,4 @@ returns-2 c =
     magnitude-high (s .args .v) _ (s .fits .v .sfits) (c .before .biased .ensures ∙ ap biased (toZ-ofZ (s .fits .v))) (c .if1 .left)
 
 pub magnitude-spec : {M : Type 1} → statement M
-magnitude-spec = tie.close (tie.spec biased-requires sub-result returns returns-2)
+magnitude-spec = tie.close (tie.spec (λ c κs. search needs) (λ c. search needs) returns returns-2)

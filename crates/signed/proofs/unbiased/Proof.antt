@@ -4,15 +4,6 @@ use Rattle.signed.proofs.Machine.{high-bits, low-bits}
 use Rattle.signed.proofs.unbiased.Statement.{statement}
 use Rattle.signed.proofs.unbiased.Tie as tie
 
-sub-result : tie.Need-sub-result
-sub-result c = search needs
-
-cast-result : tie.Need-cast-result
-cast-result c = search needs
-
-cast-result-2 : tie.Need-cast-result-2
-cast-result-2 c = search needs
-
 returns : tie.Need-returns
 returns c = low-bits (c .before .args .x) (c .if1 .taken)
 
@@ -20,4 +11,4 @@ returns-2 : tie.Need-returns-2
 returns-2 c = high-bits (c .before .args .x) (c .before .fits .x .fits) (c .if1 .left)
 
 pub unbiased-spec : {M : Type 1} → statement M
-unbiased-spec = tie.close (tie.spec sub-result cast-result cast-result-2 returns returns-2)
+unbiased-spec = tie.close (tie.spec (λ c. search needs) (λ c. search needs) (λ c. search needs) returns returns-2)

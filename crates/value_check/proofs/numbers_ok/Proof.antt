@@ -1,35 +1,43 @@
--- `value_check::numbers_ok` meets its contract. The loop's invariant: what the numbers left make of the least, the greatest and
--- the divisor so far is what all make of the first ones. Assumes nothing.
-use mathlib.Core.Path.{_≡_, sym, ap, ap₂, _∙_}
+-- `value_check::numbers_ok` meets its contract. The loop's invariant holds since a turn makes of the least, the greatest and the divisor
+-- so far, with number i, what the definition makes of them, and goes on by one number's bits. Assumes nothing.
+use mathlib.Core.Path.{sym, ap, _∙_}
 use mathlib.Core.Bool.{Bool, _&&_}
-use Prim.Native.Nat.{ℕ, _+_, _-_, _*_, _/_, _%_, _^_, _<_, _≤_, zero-le}
-use native.Mathlib.Nat.{zero-mul}
-use lib.Bits.{bitAnd, and-mask}
+use Prim.Native.Nat.{_+_, _-_, _/_, _^_, _<_}
+use lib.Bits.{bitAnd}
 use native.Mathlib.Omega.{arith}
-use lib.ListN.{length, drop}
 use lib.Pow.{pow-mono, pow-pos}
 use borrow.Author.Needs.{needs}
 use borrow.Author.Tests.{not-true, not-false}
 use Rattle.format.specs.HeaderNumbers.{unzigzag}
-use Rattle.format.specs.Bits.{unpacked}
 use Rattle.format.specs.Values.{fits64, valueAt}
-use Rattle.format.specs.Column.{Head}
 use Rattle.column.specs.Opened.{columnOf}
-use Rattle.value_check.specs.ValuesOk.{numbersOk}
-use Rattle.value_check.proofs.Turns.{most-is, room, next, ended, stops, gcd-swap, one-on}
+use Rattle.value_check.proofs.Turns.{Sizes, Turn, most-is, enough, first, room, next, ended, stops}
 use Rattle.value_check.proofs.numbers_ok.Statement.{statement}
 use Rattle.value_check.proofs.numbers_ok.Tie as tie
-use Rattle.value_check.proofs.numbers_ok.Reads as reads
-use Rattle.value_check.proofs.numbers_ok.Lts as lts
 
 abbrev Inv-loop : tie.InvT-loop
-Inv-loop s c d w n top most sure lo₀ hi₀ g₀ m₀ i₀ at₀ skip₀ lo hi g m i at skip =
-    (i ≤ n) × (hi < 2 ^ (c .bits))
-    × (numbersOk (columnOf c .head) lo hi g (drop i (unpacked (c .bits) (c .count) s)) ≡ numbersOk (columnOf c .head) (2 ^ c .bits - 1) 0 d (unpacked (c .bits) (c .count) s))
-    × (m * g ≤ 4294967296) × (m ≤ 4294967296) × (at * 8 + skip ≡ i * w) × (skip < 8)
+Inv-loop s c d w n top most sure lo₀ hi₀ g₀ m₀ i₀ at₀ skip₀ lo hi g m i at skip = Turn (columnOf c .head) s d w n lo hi g m i at skip
 
 abbrev μ-loop : tie.MeasureT-loop
 μ-loop s c d w n top most sure lo₀ hi₀ g₀ m₀ i₀ at₀ skip₀ lo hi g m i at skip = n - i
+
+-- ---- before the loop
+
+sizes : (q : tie.After-pow2 Inv-loop μ-loop) → let a = q .before .before .before .before .args in
+    Sizes (columnOf (a .c) .head) (a .s .now) (q .before .before .size .result) (q .before .size2 .result) (q .pow2 .result)
+sizes q =
+    let p = q .before .before .before .before .pre in
+    record {
+      width = q .before .before .size .ensures;
+      count = q .before .size2 .ensures;
+      high = q .pow2 .ensures;
+      facts = p .0;
+      long = p .1;
+      some = p .2;
+    }
+
+abbrev made : (l : tie.At-loop Inv-loop μ-loop) → tie.After-pow2 Inv-loop μ-loop
+made l = l .before .before .before
 
 sub-pow2 : tie.Need-sub-pow2 Inv-loop μ-loop
 sub-pow2 c = omega (arith, c .before .size .ensures, c .before .before .before .pre .2)
@@ -42,129 +50,86 @@ sub-most c = omega (arith, c .pow2 .ensures, pow-pos (c .before .before .size .r
 
 add-most : tie.Need-add-most Inv-loop μ-loop
 add-most c =
-    let p = c .before .before .before .before .pre in
-    let b : ℕ = c .before .before .before .before .args .c .bits in
-    omega (arith, most-is b (c .before .before .size .result) (c .pow2 .result) (p .2) (c .before .before .size .ensures) (c .pow2 .ensures), pow-mono {i = b} {j = 64} (p .0 .width))
+    let st = c .before .before .before .before in
+    omega (arith, most-is (sizes c), pow-mono {i = st .args .c .bits} {j = 64} (st .pre .0 .width))
 
 fits-requires : tie.Need-fits-requires Inv-loop μ-loop
 fits-requires c κs = c .before .before .before .before .pre .0 .step
 
 loop-holds : tie.Need-loop-holds Inv-loop μ-loop
-loop-holds c =
-    let st = c .before .before .before .before .before .before in
-    let b : ℕ = st .args .c .bits in (
-      zero-le,
-      pow-pos b,
-      ap (λ (k : ℕ). numbersOk (columnOf (st .args .c) .head) k 0 (st .args .d) (unpacked b (st .args .c .count) (st .args .s .now)))
-          (most-is b (c .before .before .before .before .size .result) (c .before .before .pow2 .result) (st .pre .2) (c .before .before .before .before .size .ensures) (c .before .before .pow2 .ensures)),
-      c .reciprocal .ensures .0,
-      c .reciprocal .ensures .1,
-      sym (zero-mul (c .before .before .before .before .size .result)),
-      omega arith,
-    )
+loop-holds c = first (sizes (c .before .before)) (c .reciprocal .ensures)
+
+-- ---- a turn
 
 next-of-requires : tie.Need-next-of-requires Inv-loop μ-loop
 next-of-requires c κs =
-    let l = c .before .loop in
-    let st = c .before .before .before .before .before .before .before .before in
-    let w = c .before .before .before .before .before .before .size in
-    let n = c .before .before .before .before .before .size2 in
-    let e : n .result * w .result ≡ st .args .c .count * st .args .c .bits = ap₂ (λ (x y : ℕ). x * y) (n .ensures) (w .ensures) in
-    (omega (arith, w .ensures, st .pre .0 .width), c .loop-test .taken, omega (arith, e, st .pre .1, st .pre .0 .values), l .inv .5, l .inv .6)
+    let t = c .before .loop .inv in
+    let z = sizes (made (c .before)) in
+    (omega (arith, z .width, z .facts .width), c .loop-test .taken, enough z, t .place, t .few)
 
 add-next : tie.Need-add-next Inv-loop μ-loop
-add-next c = omega (arith, c .before .before .loop .inv .6, c .before .before .before .before .before .before .before .size .ensures, c .before .before .before .before .before .before .before .before .before .pre .0 .width)
+add-next c =
+    let l = c .before .before in
+    let z = sizes (made l) in
+    omega (arith, l .loop .inv .few, z .width, z .facts .width)
 
 add-at : tie.Need-add-at Inv-loop μ-loop
 add-at c =
     let l = c .before .before in
-    let st = c .before .before .before .before .before .before .before .before .before in
-    let r =
-    room (columnOf (st .args .c) .head) (st .args .s .now) (c .before .before .before .before .before .before .before .size .result) (c .before .before .before .before .before .before .size2 .result)
-    (c .before .before .before .before .before .before .before .size .ensures) (c .before .before .before .before .before .before .size2 .ensures) (st .pre .0) (st .pre .1) (l .loop .i) (c .before .loop-test .taken) in
-    let h : l .loop .at * 8 + l .loop .skip + c .before .before .before .before .before .before .before .size .result ≤ 8 * length (st .args .s .now) = omega (arith, r .1, l .loop .inv .5) in
+    let h = room (sizes (made l)) (l .loop .inv) (c .before .loop-test .taken) in
     search needs
 
 common-requires : tie.Need-common-requires Inv-loop μ-loop
-common-requires c κs = let v = c .before .before .before .before .loop .inv in (v .3, v .4)
+common-requires c κs = c .before .before .before .before .loop .inv .quick
 
 renewed-requires : tie.Need-renewed-requires Inv-loop μ-loop
-renewed-requires c κs = let v = c .before .before .before .before .before .loop .inv in (v .3, v .4)
+renewed-requires c κs = c .before .before .before .before .before .loop .inv .quick
 
 add-i : tie.Need-add-i Inv-loop μ-loop
 add-i c = omega (arith, c .before .before .before .before .before .loop-test .taken)
 
+turned : (r : tie.After-renewed Inv-loop μ-loop) → let l = r .before .before .before .before .before .before in let q = made l in
+    let a = q .before .before .before .before .args in let w = q .before .before .size .result in
+    Turn (columnOf (a .c) .head) (a .s .now) (a .d) w (q .before .size2 .result) (r .before .before .before .smaller .result)
+    (r .before .before .larger .result) (r .before .common .result) (r .renewed .result) (l .loop .i + 1)
+    (l .loop .at + (l .loop .skip + w) / 8) (bitAnd (l .loop .skip + w) 7)
+turned r =
+    let f = r .before .before .before .before in
+    let l = f .before .before in
+    next (sizes (made l)) (l .loop .inv) (f .before .loop-test .taken) (f .next-of .ensures) (r .before .before .before .smaller .ensures)
+    (r .before .before .larger .ensures) (r .before .common .ensures) (r .renewed .ensures)
+
 returns : tie.Need-returns Inv-loop μ-loop
 returns c =
-    let f = c .before .before .before .before .before .before in
-    let l = f .before .before in
-    let q = l .before .before .before in
-    let st = q .before .before .before .before in
-    let h : Head = columnOf (st .args .c) .head in
-    let w : ℕ = q .before .before .size .result in
-    let n : ℕ = q .before .size2 .result in
-    let t =
-    next h (st .args .s .now) w n (q .before .before .size .ensures) (q .before .size2 .ensures) (l .loop .lo) (l .loop .hi) (l .loop .g) (l .loop .i)
-    (f .before .loop-test .taken) (f .next-of .ensures) (c .before .before .before .before .before .smaller .ensures) (c .before .before .before .before .larger .ensures)
-    (c .before .before .before .common .ensures ∙ gcd-swap _ _) (l .loop .inv .1) in
-    let small : st .args .c .least < 2 ^ 64 = st .good .1 .0 .1 .1 .1 .1 .1 .1 .1 .0 .1 in
-    let m : _ ≡ 2 ^ h .bits - 1 = most-is (h .bits) w (q .pow2 .result) (st .pre .2) (q .before .before .size .ensures) (q .pow2 .ensures) in
-    sym
-    (stops h (st .args .s .now) w n (q .before .before .size .ensures) (q .before .size2 .ensures) (st .pre .0) small (c .before .before .before .before .before .smaller .result)
-    (c .before .before .before .before .larger .result) (c .before .before .before .common .result) (l .loop .i + 1) (q .pow2 .ensures) m (l .before .before .fits2 .ensures) (c .before .settled .ensures) (c .if1 .taken) (t .0))
-    ∙ sym (t .1) ∙ l .loop .inv .2
+    let r = c .before .before in
+    let l = r .before .before .before .before .before .before in
+    let q = made l in
+    let small : q .before .before .before .before .args .c .least < 2 ^ 64 = q .before .before .before .before .good .1 .0 .1 .1 .1 .1 .1 .1 .1 .0 .1 in
+    stops (sizes q) (turned r) small (l .before .before .fits2 .ensures) (c .before .settled .ensures) (c .if1 .taken)
 
 loop-less : tie.Need-loop-less Inv-loop μ-loop
 loop-less c = omega (arith, c .before .before .before .before .before .before .before .loop-test .taken)
 
-loop-again : tie.Need-loop-again Inv-loop μ-loop
-loop-again c =
-    let f = c .before .before .before .before .before .before in
-    let l = f .before .before in
-    let q = l .before .before .before in
-    let st = q .before .before .before .before in
-    let h : Head = columnOf (st .args .c) .head in
-    let w : ℕ = q .before .before .size .result in
-    let n : ℕ = q .before .size2 .result in
-    let t =
-    next h (st .args .s .now) w n (q .before .before .size .ensures) (q .before .size2 .ensures) (l .loop .lo) (l .loop .hi) (l .loop .g) (l .loop .i)
-    (f .before .loop-test .taken) (f .next-of .ensures) (c .before .before .before .before .before .smaller .ensures) (c .before .before .before .before .larger .ensures)
-    (c .before .before .before .common .ensures ∙ gcd-swap _ _) (l .loop .inv .1) in
-    let m : bitAnd (l .loop .skip + w) 7 ≡ (l .loop .skip + w) % 8 = and-mask (l .loop .skip + w) 3 in (
-      omega (arith, f .before .loop-test .taken),
-      t .0,
-      sym (t .1) ∙ l .loop .inv .2,
-      c .before .before .renewed .ensures .0,
-      c .before .before .renewed .ensures .1,
-      rw m (one-on (l .loop .i) w (l .loop .at) (l .loop .skip) (l .loop .inv .5)),
-      omega (arith, m),
-    )
+-- ---- none is left
 
 returns-2 : tie.Need-returns-2 Inv-loop μ-loop
 returns-2 c =
     let l = c .before .before .before in
-    let q = l .before .before .before in
-    let st = q .before .before .before .before in
-    let e =
-    ended (columnOf (st .args .c) .head) (st .args .s .now) (q .before .before .size .result) (q .before .size2 .result) (q .before .before .size .ensures) (q .before .size2 .ensures)
-    (l .loop .lo) (l .loop .hi) (l .loop .g) (l .loop .i) (c .before .before .loop-test .left) (q .pow2 .ensures) (c .before .exact .ensures) in
-    ap (λ (b : Bool). b && fits64 (valueAt (unzigzag (st .args .c .least)) (st .args .c .step) (l .loop .hi))) (sym (not-true (c .before .exact .result) (c .if2 .taken)))
-    ∙ sym e ∙ l .loop .inv .2
+    let a = made l .before .before .before .before .args in
+    ended (sizes (made l)) (l .loop .inv) (c .before .before .loop-test .left) (c .before .exact .ensures)
+    (ap (λ (b : Bool). b && fits64 (valueAt (unzigzag (a .c .least)) (a .c .step) (l .loop .hi))) (sym (not-true (c .before .exact .result) (c .if2 .taken))))
 
 fits-requires-2 : tie.Need-fits-requires-2 Inv-loop μ-loop
-fits-requires-2 c κs = c .before .before .before .before .before .before .before .before .before .before .pre .0 .step
+fits-requires-2 c κs = sizes (made (c .before .before .before)) .facts .step
 
 returns-3 : tie.Need-returns-3 Inv-loop μ-loop
 returns-3 c =
+    let e = c .before .before .exact in
     let l = c .before .before .before .before in
-    let q = l .before .before .before in
-    let st = q .before .before .before .before in
-    let e =
-    ended (columnOf (st .args .c) .head) (st .args .s .now) (q .before .before .size .result) (q .before .size2 .result) (q .before .before .size .ensures) (q .before .size2 .ensures)
-    (l .loop .lo) (l .loop .hi) (l .loop .g) (l .loop .i) (c .before .before .before .loop-test .left) (q .pow2 .ensures) (c .before .before .exact .ensures) in
-    c .fits3 .ensures
-    ∙ ap (λ (b : Bool). b && fits64 (valueAt (unzigzag (st .args .c .least)) (st .args .c .step) (l .loop .hi))) (sym (not-false (c .before .before .exact .result) (c .before .if2 .left)))
-    ∙ sym e ∙ l .loop .inv .2
+    let a = made l .before .before .before .before .args in
+    ended (sizes (made l)) (l .loop .inv) (c .before .before .before .loop-test .left) (e .ensures)
+    (c .fits3 .ensures
+    ∙ ap (λ (b : Bool). b && fits64 (valueAt (unzigzag (a .c .least)) (a .c .step) (l .loop .hi))) (sym (not-false (e .result) (c .before .if2 .left))))
 
 pub numbers-ok-spec : {M : Type 1} → statement M
 numbers-ok-spec =
@@ -192,7 +157,7 @@ numbers-ok-spec =
     (λ c κs. search needs)
     returns
     loop-less
-    loop-again
+    (λ c. turned (c .before .before))
     (λ c κs. search needs)
     returns-2
     fits-requires-2

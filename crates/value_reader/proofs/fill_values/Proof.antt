@@ -2,7 +2,7 @@
 -- starts after the first skip bits of byte at. Assumes nothing.
 use mathlib.Core.Path.{_≡_, refl, sym, ap, _∙_}
 use mathlib.Core.List.{List, _∷_, _++_}
-use Prim.Native.Nat.{ℕ, _+_, _-_, _*_, _/_, _%_, _≤_, _<_}
+use Prim.Native.Nat.{ℕ, _+_, _-_, _*_, _%_, _≤_, _<_}
 use native.Mathlib.Nat.{mul-le-mul-right}
 use native.Mathlib.Omega.{arith}
 use borrow.Author.Needs.{needs}
@@ -15,10 +15,12 @@ use mir.Facts.{toZ-ofZ}
 use Rattle.format.specs.HeaderNumbers.{unzigzag}
 use Rattle.format.specs.Bits.{unpacked, fetched}
 use Rattle.format.specs.Values.{valueAt}
-use Rattle.packing.proofs.Join.{number-inside, place-next}
-use Rattle.filling.proofs.Fill.{Fill, begun, one-more, filled, from-front}
+use Rattle.format.proofs.Bits.{within}
+use Rattle.packing.proofs.Join.{place-next}
 use Rattle.value_reader.specs.Stored.{valuesOf}
 use Rattle.value_reader.proofs.Each.{Sum, values-more, values-end, length-values, sum-at}
+use Rattle.format.specs.Stores.{Fill}
+use Rattle.format.proofs.Stores.{begun, one-more, filled, sets-front}
 use Rattle.value_reader.proofs.fill_values.Statement.{statement}
 use Rattle.value_reader.proofs.fill_values.Tie as tie
 
@@ -99,7 +101,8 @@ add-at c =
     let z = start (c .before .before) in
     let s = z .before .before .before in
     let l = c .before .before .before .loop in
-    let e = number-inside (l .i) (s .args .n) (z .size .result) (8 * length (s .args .section .now)) (c .before .before .loop-test .taken) (holds z) in
+    let e = within (l .i) (z .size .result) (s .args .n) (c .before .before .loop-test .taken) in
+    let f = holds z in
     let h : l .at * 8 + l .skip + z .size .result ≤ 8 * length (s .args .section .now) = omega (arith, l .inv .2) in
     search needs
 
@@ -132,7 +135,7 @@ returns c =
     let n : length vs ≡ a .n = length-values (a .least) (a .step) (a .bits) (a .n) (a .section .now) in
     filled _ _ _ _ _ _ (l .inv .1) (values-end (a .least) (a .step) (a .bits) (a .n) (a .section .now) (l .i) (omega (arith, l .inv .0, c .loop-test .left)))
     ∙ c .before .before .before .before .before .fill-fours .ensures .1 .same
-    ∙ from-front (a .values .now) vs (omega (arith, s .pre .2)) ∙ ap (λ (k : ℕ). vs ++ drop k (a .values .now)) n
+    ∙ sets-front (a .values .now) vs (omega (arith, s .pre .2)) ∙ ap (λ (k : ℕ). vs ++ drop k (a .values .now)) n
 
 pub fill-values-spec : {M : Type 1} → statement M
 fill-values-spec =

@@ -1,9 +1,9 @@
 -- `values::product_fits` meets its contract. Assumes nothing.
 use mathlib.Core.Path.{_≡_, sym, ap, _∙_}
-use Prim.Native.Nat.{ℕ, _*_, _<_}
+use Prim.Native.Nat.{ℕ, _*_}
 use native.Mathlib.Nat.{mul-one}
 use lib.Dec.{leb}
-use Rattle.values.proofs.Guess.{below, leb-over}
+use Rattle.values.proofs.Guess.{product-lt, leb-over}
 use borrow.Author.Needs.{needs}
 use Rattle.values.proofs.product_fits.Statement.{statement}
 use Rattle.values.proofs.product_fits.Tie as tie
@@ -15,7 +15,9 @@ returns c =
     ap (λ (x : ℕ). leb x (a .room)) (sym e)
 
 mul-result : tie.Need-mul-result
-mul-result c = record { fits = below 32 (c .before .if2 .taken) (c .if3 .taken) }
+mul-result c =
+    let a = c .before .before .before .args in
+    record { fits = product-lt (a .stored) (a .step) (c .before .if2 .taken) (c .if3 .taken) }
 
 returns-3 : tie.Need-returns-3
 returns-3 c =

@@ -6,11 +6,14 @@ use borrow.Author.Needs.{needs}
 use Rattle.values.proofs.reciprocal.Statement.{statement}
 use Rattle.values.proofs.reciprocal.Tie as tie
 
+returns-2 : tie.Need-returns-2
+returns-2 c = record { product = omega arith; small = omega arith }
+
 returns-3 : tie.Need-returns-3
 returns-3 c =
     let d : ℕ = c .before .before .args .d in
     let p : 0 < d = omega arith in
-    (le-div-iff-mul-le p .0 (omega arith), div-le-self 4294967296 d)
+    record { product = le-div-iff-mul-le p .0 (omega arith); small = div-le-self 4294967296 d }
 
 pub reciprocal-spec : {M : Type 1} → statement M
-reciprocal-spec = tie.close (tie.spec (λ c. search needs) (λ c. search needs) (λ c. search needs) returns-3)
+reciprocal-spec = tie.close (tie.spec (λ c. search needs) returns-2 (λ c. search needs) returns-3)

@@ -1,0 +1,33 @@
+-- `cases::widths` is safe and ends.
+use Prim.Native.Nat.{_-_}
+use borrow.Author.Needs.{needs}
+use Rattle.cases.proofs.widths.Statement.{statement}
+use Rattle.cases.proofs.widths.Tie as tie
+
+abbrev Inv-loop : tie.InvT-loop
+Inv-loop t₀ spare₀ t4 t spare = Unit {0}
+
+abbrev μ-loop : tie.MeasureT-loop
+μ-loop t₀ spare₀ t4 t spare = 64 - spare
+
+pub widths-spec : {M : Type 1} → statement M
+widths-spec =
+    tie.close
+    (tie.spec
+    Inv-loop
+    μ-loop
+    (λ c κs. search needs)
+    (λ c κs. search needs)
+    (λ c κs. search needs)
+    (λ c. search needs)
+    (λ c. search needs)
+    (λ c κs. search needs)
+    (λ c κs. search needs)
+    (λ c κs. search needs)
+    (λ c κs. search needs)
+    (λ c. search needs)
+    (λ c. search needs)
+    (λ c. search needs)
+    (λ c. search needs)
+    (λ c κs. search needs)
+    (λ c. search needs))

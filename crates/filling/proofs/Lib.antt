@@ -1,2 +1,0 @@
--- Laws of buffers that are filled.
-pub mod Fill

@@ -1,0 +1,137 @@
+-- The greatest common divisor: what makes it one, Euclid's step, and the divisor of a list of numbers, whatever they are taken from.
+-- Assumes nothing.
+use mathlib.Core.Path.{_≡_, refl, sym, ap, _∙_, subst}
+use mathlib.Core.List.{List, [], _∷_, map}
+use Prim.Native.Nat.{ℕ, zero, suc, _+_, _-_, _*_, _/_, _%_, _<_, _∣_}
+use native.Mathlib.Nat.{mod-lt, zero-lt-suc, dvd-refl, dvd-zero, dvd-trans, dvd-sub, dvd-mod-iff, dvd-antisymm, dvd-mul-left, dvd-mul-right-of-dvd, one-dvd}
+use native.Mathlib.Nat.{mul-add, mul-comm, mul-assoc, div-add-mod'}
+use native.Mathlib.Omega.{arith}
+use lib.IntN.{ℤ, natAbs}
+use Rattle.format.specs.Values.{gcdIn, gcd, gcdOf}
+use Rattle.format.specs.Pairs.{Each}
+
+-- ---- two numbers
+
+-- it divides both, and every number that does so divides it
+pub record IsGcd (a b g : ℕ) : Type 0 where
+  pub left : g ∣ a
+  pub right : g ∣ b
+  pub great : (d : ℕ) → d ∣ a → d ∣ b → d ∣ g
+
+pub gcd-unique : {a b g h : ℕ} → IsGcd a b g → IsGcd a b h → g ≡ h
+gcd-unique {g} {h} p q = dvd-antisymm (q .great g (p .left) (p .right)) (p .great h (q .left) (q .right))
+
+-- of b and what a leaves by b, so of a and b
+is-step : {a b g : ℕ} → IsGcd b (a % b) g → IsGcd a b g
+is-step r =
+    record { left = dvd-mod-iff _ (r .left) .0 (r .right); right = r .left; great = λ d p q. r .great d q (dvd-mod-iff _ q .1 p) }
+
+is-in : (f a b : ℕ) → b < f → IsGcd a b (gcdIn f a b)
+unfolding gcdIn
+is-in zero a b h = absurd (omega arith)
+is-in (suc f) a zero h = record { left = dvd-refl a; right = dvd-zero a; great = λ d p q. p }
+is-in (suc f) a (suc b) h = is-step (is-in f (suc b) (a % suc b) (omega (arith, mod-lt a (zero-lt-suc b))))
+
+pub gcd-is : (a b : ℕ) → IsGcd a b (gcd a b)
+unfolding gcd
+gcd-is a b = is-in (suc b) a b (omega arith)
+
+pub gcd-zero : (a : ℕ) → gcd a 0 ≡ a
+unfolding gcd gcdIn
+gcd-zero a = refl
+
+pub gcd-step : (a b : ℕ) → gcd a b ≡ gcd b (a % b)
+gcd-step a b = gcd-unique (gcd-is a b) (is-step (gcd-is b (a % b)))
+
+one-gcd : (b : ℕ) → gcd 1 b ≡ 1
+one-gcd b = dvd-antisymm (gcd-is 1 b .left) (one-dvd (gcd 1 b))
+
+-- a divisor of x is the greatest common divisor of both
+pub gcd-multiple : (g x q : ℕ) → x ≡ q * g → g ≡ gcd g x
+gcd-multiple g x q e =
+    gcd-unique (record { left = dvd-refl g; right = subst (λ (y : ℕ). g ∣ y) (sym e) (dvd-mul-left g q); great = λ k a b. a }) (gcd-is g x)
+
+-- ---- their multiples by g
+
+-- what divides the multiples of two numbers divides that of what the first leaves by the second
+dvd-left-over : (k g a b : ℕ) → k ∣ g * a → k ∣ g * b → k ∣ g * (a % b)
+dvd-left-over k g a b p q =
+    let e : g * (a / b * b) + g * (a % b) ≡ g * a = sym (mul-add g (a / b * b) (a % b)) ∙ ap (λ (n : ℕ). g * n) (div-add-mod' a b) in
+    let f : g * (a / b * b) ≡ g * b * (a / b) = ap (λ (n : ℕ). g * n) (mul-comm (a / b) b) ∙ sym (mul-assoc g b (a / b)) in
+    let r : k ∣ g * (a / b * b) = subst (λ (n : ℕ). k ∣ n) (sym f) (dvd-mul-right-of-dvd k q (a / b)) in
+    let t : g * a - g * (a / b * b) ≡ g * (a % b) = omega arith in
+    subst (λ (n : ℕ). k ∣ n) t (dvd-sub k p r)
+
+scaled-in : (f k g a b : ℕ) → b < f → k ∣ g * a → k ∣ g * b → k ∣ g * gcdIn f a b
+unfolding gcdIn
+scaled-in zero k g a b h p q = absurd (omega arith)
+scaled-in (suc f) k g a zero h p q = p
+scaled-in (suc f) k g a (suc b) h p q =
+    scaled-in f k g (suc b) (a % suc b) (omega (arith, mod-lt a (zero-lt-suc b))) q (dvd-left-over k g a (suc b) p q)
+
+-- and so that of their greatest common divisor
+pub dvd-scaled-gcd : (k g a b : ℕ) → k ∣ g * a → k ∣ g * b → k ∣ g * gcd a b
+unfolding gcd
+dvd-scaled-gcd k g a b p q = scaled-in (suc b) k g a b (omega arith) p q
+
+-- ---- a list of numbers
+
+-- of d and each number
+unfoldable pub gcdFrom : ℕ → List ℕ → ℕ
+gcdFrom d [] = d
+gcdFrom d (x ∷ xs) = gcdFrom (gcd d x) xs
+
+abbrev pub DividesEach : ℕ → List ℕ → Type 0
+DividesEach k [] = Unit {0}
+DividesEach k (x ∷ xs) = (k ∣ x) × DividesEach k xs
+
+pub gcdFrom-first : (d : ℕ) (xs : List ℕ) → gcdFrom d xs ∣ d
+unfolding gcdFrom
+gcdFrom-first d [] = dvd-refl d
+gcdFrom-first d (x ∷ xs) = dvd-trans (gcdFrom (gcd d x) xs) (gcdFrom-first (gcd d x) xs) (gcd-is d x .left)
+
+pub gcdFrom-each : (d : ℕ) (xs : List ℕ) → DividesEach (gcdFrom d xs) xs
+unfolding gcdFrom
+gcdFrom-each d [] = tt
+gcdFrom-each d (x ∷ xs) =
+    (dvd-trans (gcdFrom (gcd d x) xs) (gcdFrom-first (gcd d x) xs) (gcd-is d x .right), gcdFrom-each (gcd d x) xs)
+
+pub dvd-gcdFrom : (k d : ℕ) (xs : List ℕ) → k ∣ d → DividesEach k xs → k ∣ gcdFrom d xs
+unfolding gcdFrom
+dvd-gcdFrom k d [] p t = p
+dvd-gcdFrom k d (x ∷ xs) p t = dvd-gcdFrom k (gcd d x) xs (gcd-is d x .great k p (t .0)) (t .1)
+
+pub dvd-scaled-gcdFrom : (k g d : ℕ) (xs : List ℕ) → k ∣ g * d → DividesEach k (map (λ x. g * x) xs) → k ∣ g * gcdFrom d xs
+unfolding gcdFrom
+dvd-scaled-gcdFrom k g d [] p t = p
+dvd-scaled-gcdFrom k g d (x ∷ xs) p t = dvd-scaled-gcdFrom k g (gcd d x) xs (dvd-scaled-gcd k g d x p (t .0)) (t .1)
+
+-- nothing but 1 can follow 1
+pub gcdFrom-one : (xs : List ℕ) → gcdFrom 1 xs ≡ 1
+unfolding gcdFrom
+gcdFrom-one [] = refl
+gcdFrom-one (x ∷ xs) = rw (one-gcd x) (gcdFrom-one xs)
+
+-- ---- the values taken without sign
+
+pub gcdOf-is : (g : ℕ) (vs : List ℤ) → gcdOf g vs ≡ gcdFrom g (map natAbs vs)
+unfolding gcdOf gcdFrom
+gcdOf-is g [] = refl
+gcdOf-is g (v ∷ vs) = gcdOf-is (gcd g (natAbs v)) vs
+
+each-value : (k : ℕ) (vs : List ℤ) → DividesEach k (map natAbs vs) → Each (λ v. k ∣ natAbs v) vs
+each-value k [] t = tt
+each-value k (v ∷ vs) t = (t .0, each-value k vs (t .1))
+
+each-number : (k : ℕ) (vs : List ℤ) → Each (λ v. k ∣ natAbs v) vs → DividesEach k (map natAbs vs)
+each-number k [] t = tt
+each-number k (v ∷ vs) t = (t .0, each-number k vs (t .1))
+
+pub gcdOf-each : (g : ℕ) (vs : List ℤ) → Each (λ v. gcdOf g vs ∣ natAbs v) vs
+gcdOf-each g vs = each-value (gcdOf g vs) vs (rw (gcdOf-is g vs) (gcdFrom-each g (map natAbs vs)))
+
+pub dvd-gcdOf : (k g : ℕ) (vs : List ℤ) → k ∣ g → Each (λ v. k ∣ natAbs v) vs → k ∣ gcdOf g vs
+dvd-gcdOf k g vs p t = rw (gcdOf-is g vs) (dvd-gcdFrom k g (map natAbs vs) p (each-number k vs t))
+
+pub gcdOf-one : (vs : List ℤ) → gcdOf 1 vs ≡ 1
+gcdOf-one vs = gcdOf-is 1 vs ∙ gcdFrom-one (map natAbs vs)

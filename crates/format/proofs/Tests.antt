@@ -1,0 +1,51 @@
+-- Chains of tests: what a chain that was passed says of each of its tests, and what its tests say of a chain. Assumes nothing.
+use mathlib.Core.Path.{_≡_, refl}
+use mathlib.Core.Bool.{Bool, true, false, _&&_, _||_}
+use mathlib.Core.Option.{Option, none, some}
+use Prim.Native.Nat.{ℕ}
+use native.Mathlib.Omega.{arith}
+use Rattle.format.specs.Refusals.{Outcome, done, refused, andThen, need, needNone}
+
+-- ---- steps that may refuse
+
+module _ {A : Type 0} where
+  abbrev pub result : A → Outcome A → A
+  result d (done a) = a
+  result d (refused why w) = d
+
+  pub needed : (t : Bool) (why w : ℕ) (next : Outcome A) (a : A) → need t why w next ≡ done a → (t ≡ true) × (next ≡ done a)
+  unfolding need
+  needed true why w next a e = (refl, e)
+  needed false why w next a e = absurd (let z : _≡_ {A = ℕ} 0 1 = cc in omega arith)
+
+  pub needed-none : (o : Option ℕ) (why : ℕ) (next : Outcome A) (a : A) → needNone o why next ≡ done a → (o ≡ none) × (next ≡ done a)
+  unfolding needNone
+  needed-none none why next a e = (refl, e)
+  needed-none (some i) why next a e = absurd (let z : _≡_ {A = ℕ} 0 1 = cc in omega arith)
+
+pub passed : {A B : Type 0} (o : Outcome A) (f : A → Outcome B) (b : B) → andThen o f ≡ done b → (a : A) × (o ≡ done a) × (f a ≡ done b)
+unfolding andThen
+passed (done a) f b e = (a, refl, e)
+passed (refused why w) f b e = absurd (let z : _≡_ {A = ℕ} 0 1 = cc in omega arith)
+
+-- ---- both, either, neither
+
+pub both-true : (a b : Bool) → a && b ≡ true → (a ≡ true) × (b ≡ true)
+both-true true b e = (refl, e)
+both-true false b e = absurd (let z : _≡_ {A = ℕ} 0 1 = cc in omega arith)
+
+pub true-both : (a b : Bool) → a ≡ true → b ≡ true → a && b ≡ true
+true-both true b e f = f
+true-both false b e f = e
+
+pub or-left : (a b : Bool) → a ≡ true → a || b ≡ true
+or-left true b e = refl
+or-left false b e = absurd (let z : _≡_ {A = ℕ} 0 1 = cc in omega arith)
+
+pub or-right : (a b : Bool) → b ≡ true → a || b ≡ true
+or-right true b e = refl
+or-right false b e = e
+
+pub neither : (a b : Bool) → a || b ≡ false → (a ≡ false) × (b ≡ false)
+neither true b e = absurd (let z : _≡_ {A = ℕ} 0 1 = cc in omega arith)
+neither false b e = (refl, e)

@@ -1,0 +1,26 @@
+-- The header rules as plain facts, and what an opened column keeps: for the contracts of what works on one. Assumes nothing.
+use mathlib.Core.Path.{_≡_}
+use mathlib.Core.Bool.{true}
+use mathlib.Core.List.{List}
+use Prim.Native.Nat.{ℕ, _+_, _*_, _≤_}
+use lib.ListN.{length}
+use Rattle.format.specs.Limits.{maxCount, maxJumps, maxWidth, Power}
+use Rattle.format.specs.Bits.{packedBytes}
+use Rattle.format.specs.Column.{Head}
+use Rattle.format.specs.Opening.{headOk, Opened}
+
+-- the header rules
+pub record HeadFacts (h : Head) : Type 0 where
+  pub count : h .count ≤ maxCount
+  pub power : Power (h .power)
+  pub jumps : h .jumpCount ≤ maxJumps
+  pub width : h .bits ≤ maxWidth
+  pub step : 1 ≤ h .step
+  pub ids : 6 + 8 * h .jumpCount ≤ h .idBytes
+  pub values : h .valueBytes ≡ packedBytes (h .count) (h .bits)
+
+-- a column that its bytes were opened as
+pub record Sound (bytes : List ℕ) (c : Opened) : Type 0 where
+  pub rules : headOk (c .head) ≡ true
+  pub facts : HeadFacts (c .head)
+  pub whole : c .start + c .head .idBytes + c .head .valueBytes ≡ length bytes

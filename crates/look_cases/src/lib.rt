@@ -1,3 +1,0 @@
-// The look-up's cases.
-pub mod looking;
-pub mod steps;

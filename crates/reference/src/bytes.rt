@@ -1,0 +1,75 @@
+// Places of a list, read and put one by one. A put answers with the place after it; past the end of the bytes it puts nothing, so
+// that the same functions, run on no bytes, tell how many they put.
+use std::num::wrapping_add_u64;
+
+// What a place past the end of the ids reads as.
+const NO_ID: u64 = 18446744073709551615;
+
+// 2^63: the value 0. A value v is handed over as v + 2^63, so that all is unsigned.
+pub const ZERO: u64 = 9223372036854775808;
+
+pub fn plus(a: u64, b: u64) -> u64 {
+    wrapping_add_u64(a, b)
+}
+
+pub fn minus(a: u64, b: u64) -> u64 {
+    std::num::wrapping_sub_u64(a, b)
+}
+
+fn wide(x: u8) -> u64 {
+    x as u64
+}
+
+pub fn long(x: u32) -> u64 {
+    x as u64
+}
+
+pub fn id(ids: &[u32], i: u64) -> u64 {
+    let at = i as usize;
+    if at < ids.len() { long(ids[at]) } else { NO_ID }
+}
+
+pub fn value(values: &[u64], i: u64) -> u64 {
+    let at = i as usize;
+    if at < values.len() { values[at] } else { ZERO }
+}
+
+fn byte(s: &[u8], i: u64) -> u64 {
+    let at = i as usize;
+    if at < s.len() { wide(s[at]) } else { 0 }
+}
+
+fn store(out: &mut [u8], at: u64, x: u64) {
+    let i = at as usize;
+    if i < out.len() {
+        out[i] = (x % 256) as u8;
+    }
+}
+
+pub fn put(out: &mut [u8], at: u64, x: u64) -> u64 {
+    store(out, at, x);
+    wrapping_add_u64(at, 1)
+}
+
+// Two bytes, low byte first.
+pub fn put_short(out: &mut [u8], at: u64, x: u64) -> u64 {
+    let next = put(out, at, x);
+    put(out, next, x / 256)
+}
+
+// Four bytes, low byte first.
+pub fn put_int(out: &mut [u8], at: u64, x: u64) -> u64 {
+    let next = put_short(out, at, x);
+    put_short(out, next, x / 65536)
+}
+
+// Bit k of x, bit 0 the lowest.
+pub fn bit(x: u64, k: u64) -> u64 {
+    (x >> (k % 64)) % 2
+}
+
+// Puts one bit of a byte, of weight 2^k. A byte's first bit clears the others.
+pub fn put_bit(out: &mut [u8], at: u64, first: bool, k: u64, one: u64) {
+    let others = if first { 0 } else { byte(out, at) };
+    put(out, at, others | one << (k % 64));
+}

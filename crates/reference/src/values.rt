@@ -1,0 +1,110 @@
+// The value section (document 01, "Value section"). A value v stands here as v + 2^63.
+use super::bytes;
+use super::bytes::ZERO;
+use super::bytes::plus;
+
+// What the values have in common: the smallest, the greatest, and the greatest common divisor of all without their signs.
+struct Span {
+    smallest: u64,
+    greatest: u64,
+    divisor: u64,
+}
+
+pub struct Facts {
+    pub smallest: u64,
+    pub divisor: u64,
+    pub width: u64,
+}
+
+// The value without its sign.
+fn magnitude(v: u64) -> u64 {
+    if v < ZERO { ZERO - v } else { v - ZERO }
+}
+
+// The header number of a value: 2v for v >= 0, -2v-1 for v < 0.
+pub fn folded(v: u64) -> u64 {
+    if v < ZERO {
+        (ZERO - 1 - v) * 2 + 1
+    } else {
+        (v - ZERO) * 2
+    }
+}
+
+fn quotient(a: u64, b: u64) -> u64 {
+    if b == 0 { 0 } else { a / b }
+}
+
+fn rest(a: u64, b: u64) -> u64 {
+    if b == 0 { 0 } else { a % b }
+}
+
+// The greatest common divisor, by remainders.
+fn common(a: u64, b: u64) -> u64 {
+    let mut x = a;
+    let mut y = b;
+    while y != 0 {
+        let left = x % y;
+        x = y;
+        y = left;
+    }
+    x
+}
+
+fn with_value(s: Span, v: u64) -> Span {
+    Span {
+        smallest: if v < s.smallest { v } else { s.smallest },
+        greatest: if v > s.greatest { v } else { s.greatest },
+        divisor: common(s.divisor, magnitude(v)),
+    }
+}
+
+fn span_of(values: &[u64]) -> Span {
+    let first = bytes::value(values, 0);
+    let mut s = Span {
+        smallest: first,
+        greatest: first,
+        divisor: 0,
+    };
+    for i in 0..values.len() as u64 {
+        s = with_value(s, bytes::value(values, i));
+    }
+    s
+}
+
+// The least width w with x < 2^w.
+fn width_of(x: u64) -> u64 {
+    bytes::minus(64, bytes::long(u64::leading_zeros(x)))
+}
+
+// All values equal (or none, which read as 0): divisor 1, width 0.
+pub fn facts_of(values: &[u64]) -> Facts {
+    let s = span_of(values);
+    if s.smallest == s.greatest {
+        return Facts {
+            smallest: s.smallest,
+            divisor: 1,
+            width: 0,
+        };
+    }
+    let most = quotient(bytes::minus(s.greatest, s.smallest), s.divisor);
+    Facts {
+        smallest: s.smallest,
+        divisor: s.divisor,
+        width: width_of(most),
+    }
+}
+
+// Bit j of the section, the one of weight 2^(7 - j mod 8) in byte j div 8: a bit of value j div w, high bit first.
+fn put_value_bit(out: &mut [u8], base: u64, values: &[u64], f: Facts, j: u64) {
+    let above = bytes::minus(bytes::value(values, quotient(j, f.width)), f.smallest);
+    let below = bytes::minus(bytes::minus(f.width, 1), rest(j, f.width));
+    let one = bytes::bit(quotient(above, f.divisor), below);
+    bytes::put_bit(out, plus(base, j / 8), j % 8 == 0, 7 - j % 8, one);
+}
+
+// Puts the section, of that many bits.
+pub fn put_values(out: &mut [u8], base: u64, values: &[u64], f: Facts, bits: u64) {
+    for j in 0..bits {
+        put_value_bit(out, base, values, f, j);
+    }
+}

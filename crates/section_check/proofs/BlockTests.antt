@@ -1,0 +1,136 @@
+-- The turns of the loops over a block: what was found right so far, with the tests that are left, is what all the tests give. Assumes nothing.
+use mathlib.Core.Path.{_≡_, refl, sym, ap, ap₂, _∙_}
+use mathlib.Core.Bool.{Bool, true, false, cond, _&&_, and-true, and-assoc}
+use mathlib.Core.List.{List, _∷_}
+use Prim.Native.Nat.{ℕ, suc, _+_, _-_, _*_, _/_, _^_, _<_, _≤_}
+use lib.Pow.{pow-add}
+use native.Mathlib.Omega.{arith}
+use native.Mathlib.Numerals.{add-one}
+use lib.Dec.{eqb, leb, ltb}
+use lib.ListN.{take, drop}
+use lib.Seq.{drop-drop}
+use borrow.Author.Tests.{ltb-true, ltb-false, le-leb, lt-leb, eq-eqb, ne-eqb}
+use Rattle.format.specs.Limits.{Power}
+use Rattle.format.specs.Bytes.{fromLow, lowAt, highAt}
+use Rattle.format.specs.Ids.{byKind, rankBytes}
+use Rattle.format.specs.IdsRead.{shorts}
+use Rattle.format.specs.LookUp.{onesFrom}
+use Rattle.format.proofs.Cases.{below-or}
+use Rattle.format.proofs.Blocks.{kind-sparse, kind-dense, kind-all}
+use Rattle.judge.specs.Judge.{ascFrom, ranksFrom, placesOk, onesOk, ranksOk, onesUnlike, rankWrong}
+use Rattle.format.proofs.Sizes.{ranks-none, ranks-some}
+use Rattle.judge.proofs.Held.{ranks-zero}
+
+-- ---- shorts that ascend
+
+short-next : (s : List ℕ) (t c i : ℕ) → i < c → shorts (c - i) (drop (t + 2 * i) s) ≡ lowAt 2 s (t + 2 * i) ∷ shorts (c - (i + 1)) (drop (t + 2 * (i + 1)) s)
+unfolding shorts lowAt
+short-next s t c i h =
+    let e : c - i ≡ suc (c - (i + 1)) = omega arith in
+    let f : t + 2 * i + 2 ≡ t + 2 * (i + 1) = omega arith in
+    rw e (ap {B = List ℕ} (λ (l : List ℕ). fromLow (take 2 (drop (t + 2 * i) s)) ∷ shorts (c - (i + 1)) l)
+    (drop-drop 2 (t + 2 * i) s ∙ ap (λ (x : ℕ). drop x s) f))
+
+ltb-leb : (a b : ℕ) → ltb a b ≡ leb (a + 1) b
+ltb-leb a b = go (ltb a b) refl
+  where
+    go : (q : Bool) → ltb a b ≡ q → q ≡ leb (a + 1) b
+    go true e = let h : a < b = ltb-true a b e in sym (le-leb (a + 1) b (omega arith))
+    go false e = let h : b ≤ a = ltb-false a b e in sym (lt-leb (a + 1) b (omega arith))
+
+asc-on : (s : List ℕ) (t c i a : ℕ) → i < c
+    → ascFrom a (shorts (c - i) (drop (t + 2 * i) s))
+    ≡ (leb a (lowAt 2 s (t + 2 * i)) && ascFrom (lowAt 2 s (t + 2 * i) + 1) (shorts (c - (i + 1)) (drop (t + 2 * (i + 1)) s)))
+unfolding ascFrom
+asc-on s t c i a h = rw (short-next s t c i h, add-one (lowAt 2 s (t + 2 * i)))
+
+-- one more neighbour, x after y
+pub asc-turn : (s : List ℕ) (t c i y x : ℕ) (right : Bool) → i < c → x ≡ lowAt 2 s (t + 2 * i)
+    → (right && ascFrom (y + 1) (shorts (c - i) (drop (t + 2 * i) s)))
+    ≡ ((right && ltb y x) && ascFrom (x + 1) (shorts (c - (i + 1)) (drop (t + 2 * (i + 1)) s)))
+asc-turn s t c i y x right h e =
+    ap (λ (q : Bool). right && q) (asc-on s t c i (y + 1) h) ∙ rw (e, ltb-leb) (sym (and-assoc right _ _))
+
+asc-nil : (n a : ℕ) (l : List ℕ) → n ≡ 0 → ascFrom a (shorts n l) ≡ true
+unfolding ascFrom shorts
+asc-nil n a l e = rw e
+
+pub asc-end : (s : List ℕ) (t c i a : ℕ) (right : Bool) → c ≤ i → (right && ascFrom a (shorts (c - i) (drop (t + 2 * i) s))) ≡ right
+asc-end s t c i a right h = ap (λ (q : Bool). right && q) (asc-nil (c - i) a (drop (t + 2 * i) s) (omega arith)) ∙ and-true right
+
+pub asc-begin : (s : List ℕ) (t c y : ℕ) → y ≡ lowAt 2 s (t + 2 * 0) → ascFrom 0 (shorts c (drop t s)) ≡ ascFrom (y + 1) (shorts (c - 1) (drop (t + 2 * 1) s))
+asc-begin s t c y q =
+    let e : c ≡ c - 0 = omega arith in
+    let f : t ≡ t + 2 * 0 = omega arith in
+    below-or 0 c
+    (λ h. ap₂ (λ (x y : ℕ). ascFrom 0 (shorts x (drop y s))) e f ∙ asc-on s t c 0 0 h ∙ rw (le-leb 0 (lowAt 2 s (t + 2 * 0)) (omega arith), q))
+    (λ h. asc-nil c 0 (drop t s) (omega arith) ∙ sym (asc-nil (c - 1) (y + 1) (drop (t + 2 * 1) s) (omega arith)))
+
+-- ---- ranks
+
+-- one entry more, with what was found so far; the entry and the ones are the code's own numbers
+pub ranks-turn : (n p : ℕ) (s : List ℕ) (t m j : ℕ) (r : Bool) {x y : ℕ} {q : Bool} → j < n → q ≡ (r && eqb x y) → x ≡ highAt 2 s (t + 2 * j)
+    → y ≡ onesFrom s m (j * 2 ^ (p - 6)) 0
+    → q && ranksFrom (n - (j + 1)) p s t m (j + 1) ≡ r && ranksFrom (n - j) p s t m j
+unfolding ranksFrom
+ranks-turn n p s t m j r h eq ex ey =
+    let e : n - j ≡ suc (n - (j + 1)) = omega arith in
+    rw (eq, ex, ey, e, add-one) (and-assoc r (eqb (highAt 2 s (t + 2 * j)) (onesFrom s m (j * 2 ^ (p - 6)) 0)) _)
+
+pub ranks-last : (n p : ℕ) (s : List ℕ) (t m j : ℕ) (r : Bool) → n ≤ j → r && ranksFrom (n - j) p s t m j ≡ r
+unfolding ranksFrom
+ranks-last n p s t m j r h =
+    let e : n - j ≡ 0 = omega arith in
+    rw e (and-true r)
+
+-- all strides together are the block's longs
+pub strides-all : (p j : ℕ) → Power p → (p ≡ 0 → ⊥) → j ≡ rankBytes p / 2 → j * 2 ^ (p - 6) ≡ 1024
+strides-all p j h e q =
+    let six : 16 - p + (p - 6) ≡ 10 = omega (arith, h .most, h .least e) in
+    ap (λ (x : ℕ). x * 2 ^ (p - 6)) (q ∙ ranks-some p (h .most) e .1) ∙ sym (pow-add 2 (16 - p) (p - 6)) ∙ ap (λ (x : ℕ). 2 ^ x) six
+
+-- ---- by kind
+
+pub places-sparse : (s : List ℕ) (t c : ℕ) → c < 4096 → placesOk s t c ≡ ascFrom 0 (shorts c (drop t s))
+unfolding placesOk byKind
+places-sparse s t c h = rw (kind-sparse c h)
+
+pub places-more : (s : List ℕ) (t c : ℕ) → 4096 ≤ c → placesOk s t c ≡ true
+unfolding placesOk byKind
+places-more s t c h = below-or c 65536 (λ k. rw (kind-dense c h k)) (λ k. rw (kind-all c k))
+
+module _ (p : ℕ) (s : List ℕ) (t c : ℕ) where
+  -- the reason of a block's longs
+  abbrev pub wordsReason : ℕ
+  wordsReason = cond (onesOk p s t c) (cond (ranksOk p s t c) 0 rankWrong) onesUnlike
+
+  pub words-sparse : c < 4096 → 0 ≡ wordsReason
+  unfolding onesOk ranksOk byKind
+  words-sparse h = rw (kind-sparse c h)
+
+  pub words-whole : 65536 ≤ c → 0 ≡ wordsReason
+  unfolding onesOk ranksOk byKind
+  words-whole h = rw (kind-all c h)
+
+  module _ (h : 4096 ≤ c) (k : c < 65536) (n : ℕ) (r : Bool) (en : n ≡ onesFrom s (t + rankBytes p) 1024 0)
+      (er : r ≡ ranksFrom (rankBytes p / 2) p s t (t + rankBytes p) 0) where
+    pub words-unlike : (n ≡ c → ⊥) → 4 ≡ wordsReason
+    unfolding onesOk ranksOk byKind
+    words-unlike e = rw (kind-dense c h k, ← en, ne-eqb n c e)
+
+    pub words-ranks : n ≡ c → r ≡ false → 5 ≡ wordsReason
+    unfolding onesOk ranksOk byKind
+    words-ranks e f = rw (kind-dense c h k, ← en, eq-eqb n c e, ← er, f)
+
+    pub words-none : n ≡ c → r ≡ true → 0 ≡ wordsReason
+    unfolding onesOk ranksOk byKind
+    words-none e f = rw (kind-dense c h k, ← en, eq-eqb n c e, ← er, f)
+
+pub ranks-begin : (b p : ℕ) (s : List ℕ) (t : ℕ) → b ≡ rankBytes p
+    → ranksFrom (rankBytes p / 2) p s t (t + rankBytes p) 0 ≡ ranksFrom (b / 2 - 0) p s t (t + b) 0
+ranks-begin b p s t e =
+    let f : rankBytes p / 2 ≡ b / 2 - 0 = omega arith in
+    ap₂ (λ (x y : ℕ). ranksFrom x p s t (t + y) 0) f (sym e)
+
+pub ranks-free : (p : ℕ) (s : List ℕ) (t m : ℕ) → p ≡ 0 → ranksFrom (rankBytes p / 2) p s t m 0 ≡ true
+ranks-free p s t m e = ranks-zero (rankBytes p / 2) p s t m (ap (λ (x : ℕ). x / 2) (ranks-none p e))
