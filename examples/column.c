@@ -1,30 +1,78 @@
-/* Writes a small column, checks it, reads it back and looks two ids up. */
+/* Writes a small column, checks it, reads it back and looks three ids up. Each reply is tested
+ * before anything in it is used. */
 #include <inttypes.h>
 #include <stdio.h>
+#include <stdlib.h>
 
 #include "signalfern.h"
+
+/* Says what was refused, and ends the program. */
+static void refuse(const char *call, uint64_t refusal, uint64_t number)
+{
+    fprintf(stderr, "%s: refusal %" PRIu64 ", %s (%" PRIu64 "): %s\n", call, refusal,
+            signalfern_refusal_name(refusal), number, signalfern_refusal_text(refusal));
+    exit(1);
+}
+
+/* The number of a reply that is no refusal. */
+static uint64_t done(const char *call, signalfern_reply reply)
+{
+    if (reply.refusal != 0)
+        refuse(call, reply.refusal, reply.number);
+    return reply.number;
+}
+
+static void tell(uint32_t id, signalfern_answer answer)
+{
+    switch (answer.kind) {
+    case SIGNALFERN_FOUND:
+        printf("id %" PRIu32 ": value %" PRId64 ", ordinal %" PRIu64 "\n", id, answer.value, answer.ordinal);
+        break;
+    case SIGNALFERN_ABSENT:
+        printf("id %" PRIu32 ": not listed\n", id);
+        break;
+    default:
+        refuse("look up", answer.kind, answer.number);
+    }
+}
 
 int main(void)
 {
     const uint32_t ids[] = {0, 2, 7};
     const int64_t values[] = {150, 140, 135};
-    uint8_t column[64];
-    uint32_t read_ids[3];
-    int64_t read_values[3];
 
-    signalfern_reply written = signalfern_write(ids, 3, values, 3, 9, column, sizeof column);
-    signalfern_reply checked = signalfern_check(column, written.number);
-    signalfern_reply reading = signalfern_read(column, written.number, read_ids, 3, read_values, 3);
-    if (written.refusal || checked.refusal || reading.refusal)
+    /* Asked with no room, the writer tells how much it needs. */
+    signalfern_reply asked = signalfern_write(ids, 3, values, 3, SIGNALFERN_USUAL_POWER, NULL, 0);
+    if (asked.refusal != SIGNALFERN_ROOM)
+        refuse("write", asked.refusal, asked.number);
+    uint8_t *column = malloc(asked.number);
+    if (column == NULL)
         return 1;
-    printf("%" PRIu64 " bytes, %" PRIu64 " pairs\n", written.number, checked.number);
-    for (uint64_t i = 0; i < reading.number; i++)
+    uint64_t len = done("write", signalfern_write(ids, 3, values, 3, SIGNALFERN_USUAL_POWER, column, asked.number));
+    uint64_t count = done("check", signalfern_check(column, len));
+    printf("%" PRIu64 " bytes, %" PRIu64 " pairs\n", len, count);
+
+    /* A count that the check gave is safe to make room for. */
+    uint32_t *read_ids = malloc(count * sizeof *read_ids);
+    int64_t *read_values = malloc(count * sizeof *read_values);
+    if (read_ids == NULL || read_values == NULL)
+        return 1;
+    done("read", signalfern_read(column, len, read_ids, count, read_values, count));
+    for (uint64_t i = 0; i < count; i++)
         printf("%" PRIu32 " %" PRId64 "\n", read_ids[i], read_values[i]);
 
-    signalfern_answer seven = signalfern_look_up(column, written.number, 7);
-    signalfern_column opened = signalfern_open(column, written.number);
-    signalfern_answer five = signalfern_look_up_in(opened, column, written.number, 5);
-    printf("id 7: kind %" PRIu64 ", ordinal %" PRIu64 ", value %" PRId64 "\n", seven.kind, seven.ordinal, seven.value);
-    printf("id 5: kind %" PRIu64 "\n", five.kind);
+    tell(7, signalfern_look_up(column, len, 7));
+
+    /* For many look-ups the header is read once. */
+    signalfern_column opened = signalfern_open(column, len);
+    if (opened.refusal != 0)
+        refuse("open", opened.refusal, opened.number);
+    printf("smallest value %" PRId64 "\n", signalfern_smallest(opened.least));
+    tell(2, signalfern_look_up_in(opened, column, len, 2));
+    tell(5, signalfern_look_up_in(opened, column, len, 5));
+
+    free(read_values);
+    free(read_ids);
+    free(column);
     return 0;
 }

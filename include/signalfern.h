@@ -2,10 +2,16 @@
  * Signalfern: score columns.
  *
  * A column is a byte string that holds n pairs: an id (0 to 2147352575, strictly ascending) and a
- * signed 64-bit value. It can be written, checked, read whole, and asked for one id. Link
- * libsignalfern_c.a (x86-64 Linux).
+ * signed 64-bit value. It can be written, checked, read whole, and asked for one id. x86-64 Linux.
  *
- * For every call:
+ *     cc program.c $(pkg-config --cflags --libs signalfern)     after `make install`
+ *
+ * Six calls are proved to do what is said here, on every input: signalfern_write, _check, _read,
+ * _look_up, _open and _look_up_in. They alone are in libsignalfern_c.a, which the Rattle kit makes.
+ * Four more stand at the end, for names, sentences and the version: plain C, tested and not proved
+ * (c/names.c). The installed libsignalfern.a and libsignalfern.so have all ten.
+ *
+ * For every proved call:
  *
  * - Every input is allowed, and every outcome is stated here. A call refuses with a number from
  *   the table below; it never stops the program.
@@ -32,9 +38,18 @@
 extern "C" {
 #endif
 
+/* The version of this header; signalfern_version() has that of the library. */
+#define SIGNALFERN_VERSION_MAJOR 0
+#define SIGNALFERN_VERSION_MINOR 1
+#define SIGNALFERN_VERSION_PATCH 0
+#define SIGNALFERN_VERSION "0.1.0"
+
 /* Limits. */
 #define SIGNALFERN_MAX_ID 2147352575u    /* greatest id */
 #define SIGNALFERN_MAX_COUNT 2147352576u /* greatest count of pairs */
+
+/* The rank power that fits most columns, and Lucene's. */
+#define SIGNALFERN_USUAL_POWER 9u
 
 /*
  * Refusals. The number with a refusal is 0 where nothing else is said.
@@ -88,7 +103,8 @@ typedef struct {
     uint64_t id_bytes;    /* L, the bytes of the id section */
     uint64_t jump_count;  /* J, the count of jump entries */
     uint64_t bits;        /* w, the bits of a stored number: 0 to 64 */
-    uint64_t least;       /* the smallest value v as the header has it: 2v, or -2v-1 if v < 0 */
+    uint64_t least;       /* the smallest value v as the header has it: 2v, or -2v-1 if v < 0;
+                             signalfern_smallest gives v */
     uint64_t step;        /* g, the divisor: at least 1 */
     uint64_t value_bytes; /* V, the bytes of the value section */
     uint64_t start;       /* the bytes of the header: where the id section starts */
@@ -97,8 +113,8 @@ typedef struct {
 /*
  * Writes the column of the pairs (ids[i], values[i]) to the front of out.
  *
- * power is the rank power: 0 for none, or 7 to 15 for one rank to every 2^power ids of a dense
- * block (9 is a good choice).
+ * power is the rank power: 0 for none, or 7 to 15 for one rank to every 2^power places of a dense
+ * block (SIGNALFERN_USUAL_POWER is a good choice).
  *
  * Done: number is the column's byte count; exactly these bytes of out were written, and those after
  * them stay as they were. Refused: 1 to 6, the lowest that applies, and out stays as it was. To
@@ -113,6 +129,9 @@ signalfern_reply signalfern_write(const uint32_t *ids, size_t ids_len,
  *
  * Done: number is n, and there is just one pair list with this column. Refused: 7 to 11, then 13.
  * The time grows with the bytes, not with n: a column of 393 KB may hold 2147352576 pairs.
+ *
+ * Accepted bytes are what signalfern_write gives for some list. That it is the list that was meant
+ * no check can tell: the format has no checksum, and a changed value can be another valid column's.
  */
 signalfern_reply signalfern_check(const uint8_t *bytes, size_t len);
 
@@ -151,6 +170,25 @@ signalfern_column signalfern_open(const uint8_t *bytes, size_t len);
  */
 signalfern_answer signalfern_look_up_in(signalfern_column column,
                                         const uint8_t *bytes, size_t len, uint32_t id);
+
+/*
+ * From here on plain C, not proved (c/names.c). No text is to be freed, and none is NULL.
+ */
+
+/* The version of the library that is linked, as SIGNALFERN_VERSION. */
+const char *signalfern_version(void);
+
+/*
+ * The name of a refusal, as "DAMAGED"; "NONE" for 0 and "UNKNOWN" for a number that no refusal has.
+ * The kind of a look-up's answer is a refusal from 2 on.
+ */
+const char *signalfern_refusal_name(uint64_t refusal);
+
+/* A sentence that says what is wrong, without its full stop. */
+const char *signalfern_refusal_text(uint64_t refusal);
+
+/* The smallest value of a column, from its header number `least`. */
+int64_t signalfern_smallest(uint64_t least);
 
 #ifdef __cplusplus
 }

@@ -1,11 +1,28 @@
 //! The calls, with Rust's own types.
 
-use crate::{ffi, Refusal};
+use std::collections::TryReserveError;
+
+use crate::{ffi, Error, Refusal};
 
 /// What a look-up answers, where it does not refuse.
+///
+/// There is no third case; a case may tell more in a later version.
+///
+/// ```
+/// use signalfern::Answer;
+///
+/// let column = signalfern::write_to_vec(&[8], &[-3], 9)?;
+/// match signalfern::look_up(&column, 8)? {
+///     Answer::Found { ordinal, value, .. } => assert_eq!((ordinal, value), (0, -3)),
+///     Answer::Absent { .. } => unreachable!("8 is listed"),
+/// }
+/// # Ok::<(), signalfern::Error>(())
+/// ```
 #[derive(Clone, Copy, Debug, PartialEq, Eq, Hash)]
+#[must_use]
 pub enum Answer {
     /// The id is listed.
+    #[non_exhaustive]
     Found {
         /// Its index in the list of pairs, from 0.
         ordinal: u64,
@@ -15,6 +32,7 @@ pub enum Answer {
         words: u64,
     },
     /// The id is not listed.
+    #[non_exhaustive]
     Absent {
         /// How many 64-bit words of a bitmap were looked at.
         words: u64,
@@ -28,12 +46,30 @@ impl Answer {
     /// let column = signalfern::write_to_vec(&[8], &[-3], 9)?;
     /// assert_eq!(signalfern::look_up(&column, 8)?.value(), Some(-3));
     /// assert_eq!(signalfern::look_up(&column, 9)?.value(), None);
-    /// # Ok::<(), signalfern::Refusal>(())
+    /// # Ok::<(), signalfern::Error>(())
     /// ```
+    #[must_use]
     pub const fn value(self) -> Option<i64> {
         match self {
             Self::Found { value, .. } => Some(value),
             Self::Absent { .. } => None,
+        }
+    }
+
+    /// The index in the list of pairs, from 0, if the id is listed.
+    #[must_use]
+    pub const fn ordinal(self) -> Option<u64> {
+        match self {
+            Self::Found { ordinal, .. } => Some(ordinal),
+            Self::Absent { .. } => None,
+        }
+    }
+
+    /// How many 64-bit words of a bitmap were looked at.
+    #[must_use]
+    pub const fn words(self) -> u64 {
+        match self {
+            Self::Found { words, .. } | Self::Absent { words } => words,
         }
     }
 }
@@ -41,7 +77,7 @@ impl Answer {
 fn number(reply: ffi::Reply) -> Result<u64, Refusal> {
     match reply.refusal {
         0 => Ok(reply.number),
-        refusal => Err(Refusal::from_numbers(refusal, reply.number)),
+        refusal => Err(Refusal::given(refusal, reply.number)),
     }
 }
 
@@ -61,15 +97,15 @@ pub(crate) fn answer(answer: ffi::Answer) -> Result<Answer, Refusal> {
         1 => Ok(Answer::Absent {
             words: answer.words,
         }),
-        refusal => Err(Refusal::from_numbers(refusal, answer.number)),
+        refusal => Err(Refusal::given(refusal, answer.number)),
     }
 }
 
 /// Writes the column of the pairs `(ids[i], values[i])` to the front of `out`, and gives its byte
 /// count. The bytes of `out` after it stay as they were.
 ///
-/// `power` is the rank power: 0 for no ranks, or 7 to 15 for one rank to every 2^power ids of a
-/// block that is stored as a bitmap. 9 is a good choice.
+/// `power` is the rank power: 0 for no ranks, or 7 to 15 for one rank to every 2^power places
+/// of a block that is stored as a bitmap. The usual one is [`USUAL_POWER`](crate::USUAL_POWER).
 ///
 /// ```
 /// let mut out = [0xAA; 30];
@@ -87,26 +123,73 @@ pub fn write(ids: &[u32], values: &[i64], power: u32, out: &mut [u8]) -> Result<
     len(ffi::write(ids, values, power, out))
 }
 
+/// So many places that hold 0, without an abort where there is no memory for them.
+fn places<T: Clone + Default>(count: usize) -> Result<Vec<T>, TryReserveError> {
+    let mut places = Vec::new();
+    places.try_reserve_exact(count)?;
+    places.resize(count, T::default());
+    Ok(places)
+}
+
 /// Writes the column of the pairs to a vector of just its length. See [`write()`].
 ///
 /// ```
 /// let empty = signalfern::write_to_vec(&[], &[], 9)?;
 /// assert_eq!(empty.len(), 23);
-/// # Ok::<(), signalfern::Refusal>(())
+/// # Ok::<(), signalfern::Error>(())
 /// ```
 ///
 /// # Errors
 ///
-/// Those of [`write()`], but for [`Refusal::Room`].
-pub fn write_to_vec(ids: &[u32], values: &[i64], power: u32) -> Result<Vec<u8>, Refusal> {
-    let mut column = Vec::new();
-    match write(ids, values, power, &mut column) {
-        // No column is empty, so the first call asks for room.
-        Err(Refusal::Room { needed }) => column.resize(needed, 0),
-        other => return other.map(|_| column),
-    }
+/// [`Error::Refused`] with those of [`write()`], but for [`Refusal::Room`]; [`Error::Memory`].
+pub fn write_to_vec(ids: &[u32], values: &[i64], power: u32) -> Result<Vec<u8>, Error> {
+    let mut column = match write(ids, values, power, &mut []) {
+        Err(Refusal::Room { needed }) => places(needed)?,
+        Err(refusal) => return Err(refusal.into()),
+        Ok(_) => unreachable!("no column is empty"),
+    };
     write(ids, values, power, &mut column)?;
     Ok(column)
+}
+
+/// Writes the column of pairs from an iterator, in ascending order of their ids. See [`write()`].
+///
+/// The pairs are gathered in two lists first. Nothing more is taken after an id that is not above
+/// the one before it.
+///
+/// ```
+/// use std::collections::BTreeMap;
+///
+/// let scores = BTreeMap::from([(7, 135), (0, 150), (2, 140)]);
+/// let column = signalfern::write_pairs(scores, signalfern::USUAL_POWER)?;
+/// assert_eq!(column, signalfern::write_to_vec(&[0, 2, 7], &[150, 140, 135], 9)?);
+/// # Ok::<(), signalfern::Error>(())
+/// ```
+///
+/// # Errors
+///
+/// Those of [`write_to_vec`] for the list of all pairs.
+pub fn write_pairs<I>(pairs: I, power: u32) -> Result<Vec<u8>, Error>
+where
+    I: IntoIterator<Item = (u32, i64)>,
+{
+    let pairs = pairs.into_iter();
+    let (mut ids, mut values) = (Vec::new(), Vec::new());
+    let at_least = pairs.size_hint().0;
+    ids.try_reserve(at_least)?;
+    values.try_reserve(at_least)?;
+    for (id, value) in pairs {
+        let ascends = ids.last().is_none_or(|&before| before < id);
+        ids.try_reserve(1)?;
+        values.try_reserve(1)?;
+        ids.push(id);
+        values.push(value);
+        if !ascends {
+            // The refusal is settled: the first such index decides, and only POWER comes before.
+            break;
+        }
+    }
+    write_to_vec(&ids, &values, power)
 }
 
 /// Tells whether the bytes are a column to the last bit, and gives its count of pairs.
@@ -122,7 +205,7 @@ pub fn write_to_vec(ids: &[u32], values: &[i64], power: u32) -> Result<Vec<u8>, 
 /// *column.last_mut().unwrap() |= 1;
 /// assert_eq!(signalfern::check(&column), Err(Refusal::Damaged));
 /// assert_eq!(signalfern::check(&column[..20]), Err(Refusal::Length));
-/// # Ok::<(), Refusal>(())
+/// # Ok::<(), signalfern::Error>(())
 /// ```
 ///
 /// # Errors
@@ -141,7 +224,7 @@ pub fn check(bytes: &[u8]) -> Result<u64, Refusal> {
 /// let count = signalfern::read(&column, &mut ids, &mut values)?;
 /// assert_eq!(count, 3);
 /// assert_eq!((ids, values), ([0, 2, 7, 9], [150, 140, 135, 9]));
-/// # Ok::<(), signalfern::Refusal>(())
+/// # Ok::<(), signalfern::Error>(())
 /// ```
 ///
 /// # Errors
@@ -162,15 +245,17 @@ pub fn read(bytes: &[u8], ids: &mut [u32], values: &mut [i64]) -> Result<usize, 
 /// let column = signalfern::write_to_vec(&[0, 2, 7], &[150, 140, 135], 9)?;
 /// let (ids, values) = signalfern::read_to_vecs(&column)?;
 /// assert_eq!((ids, values), (vec![0, 2, 7], vec![150, 140, 135]));
-/// # Ok::<(), signalfern::Refusal>(())
+/// # Ok::<(), signalfern::Error>(())
 /// ```
 ///
 /// # Errors
 ///
-/// Those of [`check`].
-pub fn read_to_vecs(bytes: &[u8]) -> Result<(Vec<u32>, Vec<i64>), Refusal> {
+/// [`Error::Refused`] with those of [`check`]; [`Error::Memory`]. A system that grants more memory
+/// than it has may end the program later, when it is used: see [`Checked`](crate::Checked) for a
+/// walk that needs none.
+pub fn read_to_vecs(bytes: &[u8]) -> Result<(Vec<u32>, Vec<i64>), Error> {
     let count = len(ffi::check(bytes))?;
-    let (mut ids, mut values) = (vec![0; count], vec![0; count]);
+    let (mut ids, mut values) = (places(count)?, places(count)?);
     read(bytes, &mut ids, &mut values)?;
     Ok((ids, values))
 }

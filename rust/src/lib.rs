@@ -7,20 +7,24 @@
 //! that document 01 ("Full scope and exact rules") fixes, on every input. This wrapper, the C
 //! boundary below it and the compiler's back end are not proved; they are tested.
 //!
+//! Most programs want [`Checked`]: a column that was checked once, as a sorted map from ids to
+//! values.
+//!
 //! ```
 //! let ids = [0, 2, 7];
 //! let values = [150, 140, 135];
 //! let column = signalfern::write_to_vec(&ids, &values, 9)?;
 //! assert_eq!(column.len(), 27);
 //!
+//! let scores = signalfern::Checked::new(&column)?;
+//! assert_eq!((scores.get(7), scores.get(5)), (Some(135), None));
+//! assert!(scores.iter().eq([(0, 150), (2, 140), (7, 135)]));
+//!
 //! assert_eq!(signalfern::check(&column)?, 3);
 //! assert_eq!(signalfern::read_to_vecs(&column)?, (ids.to_vec(), values.to_vec()));
-//!
-//! use signalfern::Answer;
 //! let answer = signalfern::look_up(&column, 7)?;
-//! assert_eq!(answer, Answer::Found { ordinal: 2, value: 135, words: 0 });
-//! assert_eq!(signalfern::look_up(&column, 5)?, Answer::Absent { words: 0 });
-//! # Ok::<(), signalfern::Refusal>(())
+//! assert_eq!((answer.ordinal(), answer.value()), (Some(2), Some(135)));
+//! # Ok::<(), signalfern::Error>(())
 //! ```
 //!
 //! # Refusals
@@ -38,13 +42,22 @@
 //! assert_eq!(out, [0; 64]);
 //! ```
 
+#[cfg(not(all(target_arch = "x86_64", target_os = "linux")))]
+compile_error!("the proved library is built for x86-64 Linux alone");
+
 mod calls;
+mod checked;
 mod column;
+mod error;
 mod ffi;
+mod pairs;
 mod refusal;
 
-pub use calls::{check, look_up, read, read_to_vecs, write, write_to_vec, Answer};
-pub use column::Column;
+pub use calls::{check, look_up, read, read_to_vecs, write, write_pairs, write_to_vec, Answer};
+pub use checked::Checked;
+pub use column::{Column, Header};
+pub use error::Error;
+pub use pairs::Pairs;
 pub use refusal::Refusal;
 
 /// The greatest id.
@@ -53,12 +66,16 @@ pub const MAX_ID: u32 = 2_147_352_575;
 /// The greatest count of pairs.
 pub const MAX_COUNT: u64 = 2_147_352_576;
 
+/// The rank power that fits most columns, and Lucene's: a rank to every 512 places of a dense block.
+pub const USUAL_POWER: u32 = 9;
+
 /// Whether a rank power is allowed: 0 for no ranks, or 7 to 15.
 ///
 /// ```
 /// assert!(signalfern::power_allowed(0) && signalfern::power_allowed(9));
 /// assert!(!signalfern::power_allowed(6) && !signalfern::power_allowed(16));
 /// ```
+#[must_use]
 pub const fn power_allowed(power: u32) -> bool {
     power == 0 || (power >= 7 && power <= 15)
 }

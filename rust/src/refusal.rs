@@ -6,6 +6,7 @@ use std::fmt;
 /// Why a call refused. The order is that of document 01's table.
 #[derive(Clone, Copy, Debug, PartialEq, Eq, Hash)]
 #[non_exhaustive]
+#[must_use]
 pub enum Refusal {
     /// Ids and values differ in count.
     Lengths,
@@ -29,9 +30,16 @@ pub enum Refusal {
         needed: usize,
     },
     /// The bytes end within a header number.
-    Short,
+    Short {
+        /// The byte count. This version of the library does not tell it yet, and gives 0.
+        bytes: usize,
+    },
     /// A header number is not minimal, or is 2^64 or more.
-    Number,
+    Number {
+        /// The place of the byte that decided it, from 0. This version of the library does not tell
+        /// it yet, and gives 0.
+        place: usize,
+    },
     /// The first header number is not 1.
     Edition,
     /// A header rule is broken.
@@ -52,18 +60,29 @@ pub enum Refusal {
 }
 
 impl Refusal {
-    /// The refusal with this number, and the number with it.
-    pub(crate) fn from_numbers(number: u64, with: u64) -> Self {
-        let with = usize::try_from(with).expect("the archive is for 64-bit machines");
-        match number {
+    /// The refusal with this number in document 01, and the number that comes with it (which does
+    /// not matter where none does). None for a number that no refusal has.
+    ///
+    /// ```
+    /// use signalfern::Refusal;
+    ///
+    /// assert_eq!(Refusal::from_number(3, 1), Some(Refusal::Order { index: 1 }));
+    /// assert_eq!(Refusal::from_number(13, 0), Some(Refusal::Damaged));
+    /// assert_eq!(Refusal::from_number(0, 0), None);
+    /// ```
+    #[must_use]
+    pub const fn from_number(number: u64, with: u64) -> Option<Self> {
+        // The library is for 64-bit machines alone.
+        let with = with as usize;
+        Some(match number {
             1 => Self::Lengths,
             2 => Self::Power,
             3 => Self::Order { index: with },
             4 => Self::Range { index: with },
             5 => Self::Offset,
             6 => Self::Room { needed: with },
-            7 => Self::Short,
-            8 => Self::Number,
+            7 => Self::Short { bytes: with },
+            8 => Self::Number { place: with },
             9 => Self::Edition,
             10 => Self::Header,
             11 => Self::Length,
@@ -71,11 +90,18 @@ impl Refusal {
             13 => Self::Damaged,
             14 => Self::Id,
             15 => Self::Broken,
-            _ => panic!("libsignalfern_c gave refusal {number}, which does not exist"),
-        }
+            _ => return None,
+        })
+    }
+
+    /// The refusal that the proved library gave.
+    pub(crate) fn given(number: u64, with: u64) -> Self {
+        Self::from_number(number, with)
+            .unwrap_or_else(|| panic!("libsignalfern_c gave refusal {number}, unknown here"))
     }
 
     /// The number in document 01, 1 to 15.
+    #[must_use]
     pub const fn number(self) -> u64 {
         match self {
             Self::Lengths => 1,
@@ -84,8 +110,8 @@ impl Refusal {
             Self::Range { .. } => 4,
             Self::Offset => 5,
             Self::Room { .. } => 6,
-            Self::Short => 7,
-            Self::Number => 8,
+            Self::Short { .. } => 7,
+            Self::Number { .. } => 8,
             Self::Edition => 9,
             Self::Header => 10,
             Self::Length => 11,
@@ -96,16 +122,23 @@ impl Refusal {
         }
     }
 
-    /// The number with the refusal: an index, the bytes or the places needed, or 0.
+    /// The number with the refusal: an index, a byte count, a place, the bytes or the places needed,
+    /// or 0.
+    #[must_use]
     pub const fn number_with(self) -> u64 {
         match self {
-            Self::Order { index } | Self::Range { index } => index as u64,
-            Self::Room { needed } | Self::Buffer { needed } => needed as u64,
+            Self::Order { index: with }
+            | Self::Range { index: with }
+            | Self::Room { needed: with }
+            | Self::Short { bytes: with }
+            | Self::Number { place: with }
+            | Self::Buffer { needed: with } => with as u64,
             _ => 0,
         }
     }
 
     /// The name in document 01.
+    #[must_use]
     pub const fn name(self) -> &'static str {
         match self {
             Self::Lengths => "LENGTHS",
@@ -114,8 +147,8 @@ impl Refusal {
             Self::Range { .. } => "RANGE",
             Self::Offset => "OFFSET",
             Self::Room { .. } => "ROOM",
-            Self::Short => "SHORT",
-            Self::Number => "NUMBER",
+            Self::Short { .. } => "SHORT",
+            Self::Number { .. } => "NUMBER",
             Self::Edition => "EDITION",
             Self::Header => "HEADER",
             Self::Length => "LENGTH",
@@ -147,11 +180,11 @@ impl fmt::Display for Refusal {
                 f,
                 "the output is too short: the column takes {needed} bytes"
             ),
-            Self::Short => write!(
+            Self::Short { .. } => write!(
                 f,
                 "the bytes end within the header: the column is empty or cut off"
             ),
-            Self::Number => write!(
+            Self::Number { .. } => write!(
                 f,
                 "a number of the header is not in its shortest form or needs more than 64 bits: \
                  the header is damaged, or this is no column"
@@ -199,18 +232,27 @@ mod tests {
     #[test]
     fn numbers_go_there_and_back() {
         for number in 1..=15 {
-            let refusal = Refusal::from_numbers(number, 77);
+            let refusal = Refusal::given(number, 77);
+            assert_eq!(Refusal::from_number(number, 77), Some(refusal));
             assert_eq!(refusal.number(), number);
-            let carries = matches!(refusal.name(), "ORDER" | "RANGE" | "ROOM" | "BUFFER");
+            let told = matches!(refusal.name(), "ORDER" | "RANGE" | "ROOM" | "BUFFER");
+            let carries = told || matches!(refusal.name(), "SHORT" | "NUMBER");
             assert_eq!(refusal.number_with(), if carries { 77 } else { 0 });
-            assert_eq!(refusal.to_string().contains("77"), carries);
+            assert_eq!(refusal.to_string().contains("77"), told);
             assert_eq!(refusal.name(), refusal.name().to_uppercase());
         }
     }
 
     #[test]
-    #[should_panic = "does not exist"]
     fn a_number_outside_the_table_is_no_refusal() {
-        Refusal::from_numbers(16, 0);
+        for number in [0, 16, 17, u64::MAX] {
+            assert_eq!(Refusal::from_number(number, 0), None);
+        }
+    }
+
+    #[test]
+    #[should_panic = "gave refusal 16"]
+    fn an_archive_that_refuses_otherwise_is_no_match() {
+        let _ = Refusal::given(16, 0);
     }
 }

@@ -1,4 +1,4 @@
-//! Blocks and jump entries in an order that no writer makes, and opened columns that nobody opened.
+//! Blocks and jump entries in an order that no writer makes, and headers that nobody read.
 
 mod common;
 
@@ -121,13 +121,13 @@ fn blocks_and_entries_rearranged() {
 }
 
 #[test]
-fn opened_columns_that_nobody_opened() {
+fn headers_that_nobody_read() {
     let mut random = Random::new(26);
     let mut tally = Tally::default();
     let mut columns = small_columns(&mut random);
     columns.extend(large_columns(&mut random));
     for bytes in &columns {
-        let sound = same::open(bytes).unwrap();
+        let sound = same::open(bytes).unwrap().header();
         let asked = asked(bytes);
         for _ in 0..600 {
             let mut made = sound;
@@ -138,9 +138,9 @@ fn opened_columns_that_nobody_opened() {
                 1 => made.power = random.pick(&[0, 6, 7, 8, 12, 15, 16, wild]),
                 2 => made.id_bytes = random.pick(&[5, 6, 13, 14, len, wild]),
                 3 => made.jump_count = random.pick(&[0, 1, 2, 3, 32_767, 32_768, wild]),
-                4 => made.bits = random.pick(&[0, 1, 63, 64, 65, wild]),
-                5 => made.least = wild,
-                6 => made.step = random.pick(&[0, 1, 2, u64::MAX, wild]),
+                4 => made.width = random.pick(&[0, 1, 63, 64, 65, wild]),
+                5 => made.smallest = wild as i64,
+                6 => made.divisor = random.pick(&[0, 1, 2, u64::MAX, wild]),
                 7 => made.value_bytes = wild,
                 8 => made.start = random.pick(&[0, 1, len, u64::MAX, wild]),
                 // The whole moved or wrapped round.
@@ -151,12 +151,12 @@ fn opened_columns_that_nobody_opened() {
                 10 => {
                     made.jump_count = random.below(6) as u64;
                     made.count = random.below(9) as u64;
-                    made.bits = random.below(9) as u64;
+                    made.width = random.below(9) as u64;
                 }
-                _ => made = signalfern::Column::default(),
+                _ => made = signalfern::Header::default(),
             }
-            if random.one_in(2) && made.count <= 1 << 32 && made.bits <= 64 {
-                made.value_bytes = (made.count * made.bits).div_ceil(8);
+            if random.one_in(2) && made.count <= 1 << 32 && made.width <= 64 {
+                made.value_bytes = (made.count * made.width).div_ceil(8);
                 made.id_bytes = len.saturating_sub(made.start.saturating_add(made.value_bytes));
             }
             for _ in 0..4 {

@@ -16,7 +16,8 @@ fn build_and_run(source: &Path, compiler: &[&str]) -> String {
         .args(["-Wall", "-Wextra", "-Wpedantic", "-Werror", "-O1", "-I"])
         .arg(root.join("include"))
         .arg(root.join(source))
-        .args(["-x", "none", "-L", ARCHIVE_DIR, "-lsignalfern_c", "-o"])
+        .arg(root.join("c/names.c"))
+        .args(["-L", ARCHIVE_DIR, "-lsignalfern_c", "-o"])
         .arg(&program)
         .output()
         .expect("gcc is installed");
@@ -36,8 +37,10 @@ fn the_example_writes_checks_reads_and_looks_up() {
 0 150
 2 140
 7 135
-id 7: kind 0, ordinal 2, value 135
-id 5: kind 1
+id 7: value 135, ordinal 2
+smallest value 135
+id 2: value 140, ordinal 1
+id 5: not listed
 ";
     assert_eq!(printed, expected);
 }

@@ -4,7 +4,8 @@ mod common;
 
 use common::parts::Parts;
 use common::{same, Random};
-use signalfern::{Answer, Column, Refusal, MAX_COUNT, MAX_ID};
+use signalfern::{Column, Refusal, MAX_COUNT, MAX_ID};
+use signalfern_reference::Answer;
 
 fn bytes(hex: &str) -> Vec<u8> {
     hex.split_whitespace()
@@ -60,7 +61,7 @@ fn packed_numbers() {
 
 #[test]
 fn divisor_and_width() {
-    for (values, step, bits) in [
+    for (values, divisor, width) in [
         (&[150, 140, 135][..], 5, 2),
         (&[3, 4, 3000], 1, 12),
         (&[3, 3000], 3, 10),
@@ -73,8 +74,10 @@ fn divisor_and_width() {
         (&[-6, 6], 6, 2),
     ] {
         let ids: Vec<u32> = (0..values.len() as u32).collect();
-        let column = Column::open(&list(&ids, values, 0)).unwrap();
-        assert_eq!((column.step, column.bits), (step, bits), "{values:?}");
+        let bytes = list(&ids, values, 0);
+        let column = Column::open(&bytes).unwrap();
+        let fields = (column.divisor(), column.width());
+        assert_eq!(fields, (divisor, width), "{values:?}");
     }
 }
 
@@ -96,29 +99,32 @@ fn rank_entries() {
 
 #[test]
 fn header_numbers() {
+    // Both carry 0 until the library tells where the header broke.
+    const SHORT: Refusal = Refusal::Short { bytes: 0 };
+    const NUMBER: Refusal = Refusal::Number { place: 0 };
     for (head, refusal) in [
-        ("", Refusal::Short),
-        ("80", Refusal::Short),
-        ("80 00", Refusal::Number),
-        ("81 80 80 80 80 80 80 80 80", Refusal::Short),
-        ("81 80 80 80 80 80 80 80 80 00", Refusal::Number),
+        ("", SHORT),
+        ("80", SHORT),
+        ("80 00", NUMBER),
+        ("81 80 80 80 80 80 80 80 80", SHORT),
+        ("81 80 80 80 80 80 80 80 80 00", NUMBER),
         ("81 80 80 80 80 80 80 80 80 01", Refusal::Edition),
-        ("81 80 80 80 80 80 80 80 80 02", Refusal::Number),
-        ("81 80 80 80 80 80 80 80 80 80", Refusal::Number),
-        ("81 80 80 80 80 80 80 80 80 81 00", Refusal::Number),
+        ("81 80 80 80 80 80 80 80 80 02", NUMBER),
+        ("81 80 80 80 80 80 80 80 80 80", NUMBER),
+        ("81 80 80 80 80 80 80 80 80 81 00", NUMBER),
         ("00", Refusal::Edition),
         ("02", Refusal::Edition),
-        ("01", Refusal::Short),
+        ("01", SHORT),
         // A rank power that is not allowed, and the last number is cut off.
-        ("01 00 06 0E 01 00 00 01", Refusal::Short),
-        ("01 00 06 0E 01 00 00 01 80 00", Refusal::Number),
+        ("01 00 06 0E 01 00 00 01", SHORT),
+        ("01 00 06 0E 01 00 00 01 80 00", NUMBER),
         ("01 00 06 0E 01 00 00 01 00", Refusal::Header),
         ("01 00 09 0E 01 00 00 01 00", Refusal::Length),
     ] {
         let bytes = bytes(head);
         assert_eq!(same::check(&bytes), Err(refusal), "{head}");
         assert_eq!(same::read(&bytes, 3, 2).unwrap_err(), refusal, "{head}");
-        assert_eq!(same::open(&bytes), Err(refusal), "{head}");
+        assert_eq!(same::open(&bytes).unwrap_err(), refusal, "{head}");
         assert_eq!(same::look_up(&bytes, 0), Err(refusal), "{head}");
         let above = same::look_up(&bytes, MAX_ID + 1);
         assert_eq!(above, Err(Refusal::Id), "{head}");
@@ -142,11 +148,13 @@ fn order_and_range() {
 
     let last = list(&[MAX_ID], &[12], 9);
     let column = Column::open(&last).unwrap();
-    assert_eq!(column.jump_count, 32_767);
-    assert_eq!(
-        same::look_up(&last, MAX_ID).map(Answer::value),
-        Ok(Some(12))
-    );
+    assert_eq!(column.jump_count(), 32_767);
+    let found = Answer::Found {
+        ordinal: 0,
+        value: 12,
+        words: 0,
+    };
+    assert_eq!(same::look_up(&last, MAX_ID), Ok(found));
     assert_eq!(
         same::look_up(&last, MAX_ID - 1),
         Ok(Answer::Absent { words: 0 })
@@ -182,9 +190,10 @@ fn block_sizes() {
         (65_536, 9, 4),
     ] {
         let ids = common::block_ids(&mut random, 0, count);
-        let column = Column::open(&list(&ids, &vec![3; count], power)).unwrap();
-        assert_eq!(column.id_bytes, size + 6, "{count} ids at power {power}");
-        assert_eq!(column.jump_count, 0);
+        let bytes = list(&ids, &vec![3; count], power);
+        let column = Column::open(&bytes).unwrap();
+        assert_eq!(column.id_bytes(), size + 6, "{count} ids at power {power}");
+        assert_eq!(column.jump_count(), 0);
     }
 }
 
@@ -201,30 +210,10 @@ fn powers() {
     }
 }
 
-/// Every id that there is, with one value: some 393 KB.
-fn column_of_all_ids() -> Vec<u8> {
-    let mut ids = Vec::new();
-    for number in 0..32_766_u16 {
-        ids.extend(number.to_le_bytes());
-        ids.extend([0xFF, 0xFF]);
-    }
-    ids.extend([0xFF, 0x7F, 0, 0, 0xFF, 0xFF]);
-    for number in 0..=32_766_u32 {
-        ids.extend((number << 16).to_le_bytes());
-        ids.extend((4 * number).to_le_bytes());
-    }
-    let length = ids.len() as u64;
-    let parts = Parts {
-        numbers: [1, MAX_COUNT, 9, length, 32_767, 0, 84, 1, 0],
-        ids,
-        values: Vec::new(),
-    };
-    parts.bytes()
-}
-
 #[test]
 fn a_column_of_all_ids() {
-    let column = column_of_all_ids();
+    // Every id that there is, with one value: some 393 KB.
+    let column = Parts::full_blocks(32_766).bytes();
     assert_eq!(same::check(&column), Ok(MAX_COUNT));
     let needed = MAX_COUNT as usize;
     assert_eq!(same::read(&column, 10, 10), Err(Refusal::Buffer { needed }));

@@ -104,7 +104,7 @@ fn cut_or_lengthened() {
     for len in (0..40).chain((40..column.len()).step_by(97)) {
         tally.try_all(&column[..len], &asked);
         let short = same::check(&column[..len]).unwrap_err();
-        assert!(matches!(short, Refusal::Short | Refusal::Length), "{len}");
+        assert!(matches!(short, Refusal::Short { .. } | Refusal::Length), "{len}");
     }
     column.push(0);
     assert_eq!(same::check(&column), Err(Refusal::Length));
@@ -146,7 +146,7 @@ fn columns_of_full_blocks() {
         assert_eq!(same::read(&column, 4, 4), Err(Refusal::Buffer { needed }));
         let last = (blocks << 16) - 1;
         for id in [0, 65_535, 65_536, last / 2, last] {
-            let found = signalfern::Answer::Found {
+            let found = signalfern_reference::Answer::Found {
                 ordinal: u64::from(id),
                 value: 41,
                 words: 0,

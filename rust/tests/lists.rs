@@ -6,7 +6,8 @@ mod common;
 
 use common::damage::Tally;
 use common::{few_ids, same, values_of_width, Random, POWERS};
-use signalfern::{Answer, Refusal, MAX_ID};
+use signalfern::{Refusal, MAX_ID};
+use signalfern_reference::Answer;
 
 /// The first and the last id of each block, and some between them, by their index.
 fn chosen(ids: &[u32]) -> impl Iterator<Item = usize> + '_ {

@@ -6,7 +6,8 @@ mod common;
 use std::collections::BTreeSet;
 
 use common::{block_ids, few_ids, ids_of, same, values_of_width, Random, BLOCK_COUNTS, POWERS};
-use signalfern::{Answer, Column, Refusal, MAX_ID};
+use signalfern::{Column, Refusal, MAX_ID};
+use signalfern_reference::Answer;
 
 /// Writes the pairs and reads them back with every call; gives the column.
 fn there_and_back(ids: &[u32], values: &[i64], power: u32) -> Vec<u8> {
@@ -48,11 +49,11 @@ fn listed(ids: &[u32], values: &[i64], power: u32, id: u32) -> Answer {
 }
 
 fn look_up_all(column: &[u8], ids: &[u32], values: &[i64], power: u32, asked: &[u32]) {
-    let opened = same::open(column).unwrap();
+    let header = same::open(column).unwrap().header();
     for &id in asked {
         let answer = Ok(listed(ids, values, power, id));
         assert_eq!(same::look_up(column, id), answer, "id {id}");
-        assert_eq!(same::look_up_in(opened, column, id), answer, "id {id}");
+        assert_eq!(same::look_up_in(header, column, id), answer, "id {id}");
     }
 }
 
@@ -145,8 +146,8 @@ fn every_width() {
                 values.splice(..2.min(count), [high, low].into_iter().take(2.min(count)));
                 let column = there_and_back(&ids, &values, 9);
                 let opened = Column::open(&column).unwrap();
-                if count > 1 && opened.step == 1 {
-                    assert_eq!(opened.bits, u64::from(width), "{low} {high}");
+                if count > 1 && opened.divisor() == 1 {
+                    assert_eq!(opened.width(), u64::from(width), "{low} {high}");
                     seen.insert(width);
                 }
                 let asked: Vec<u32> = (0..3 * count as u32 + 2).collect();

@@ -6,7 +6,8 @@ mod common;
 
 use common::damage::Tally;
 use common::same;
-use signalfern::{Answer, Refusal, MAX_ID};
+use signalfern::{Refusal, MAX_ID};
+use signalfern_reference::Answer;
 
 const BROKEN: Result<Answer, Refusal> = Err(Refusal::Broken);
 

@@ -1,4 +1,4 @@
-//! The tool, as a person or a script runs it.
+//! The tool, as a person or a script runs it: the main ways.
 
 mod common;
 
@@ -10,28 +10,6 @@ use common::tool::{run, run_with, tool, Folder};
 
 fn small_column() -> Vec<u8> {
     signalfern::write_to_vec(&[0, 2, 7], &[150, 140, 135], 9).unwrap()
-}
-
-#[test]
-fn help_and_usage() {
-    run(&["--help"]).expect(0, &["write", "check", "look-up", "show", "Exit status"]);
-    run(&["--version"]).expect(0, &["signalfern 0."]);
-    for command in ["write", "check", "read", "look-up", "show", "demo"] {
-        run(&[command, "--help"]).expect(0, &[&format!("signalfern {command}")]);
-        run(&[command, "--no-such"]).expect(2, &["no option `--no-such`", command]);
-    }
-    run(&[]).expect(2, &["no command", "--help"]);
-    run(&["frobnicate"]).expect(2, &["no command `frobnicate`"]);
-    run(&["check"]).expect(2, &["no column is named"]);
-    run(&["check", "a", "b"]).expect(2, &["`b` is one word too many"]);
-    run(&["write", "a"]).expect(2, &["-o COLUMN"]);
-    run(&["write", "a", "-o"]).expect(2, &["`-o` needs a value"]);
-    run(&["write", "-o", "a", "--output=b"]).expect(2, &["`--output` stands twice"]);
-    run(&["write", "a", "-o", "b", "--power", "x"]).expect(2, &["`x` is no rank power"]);
-    run(&["look-up", "a"]).expect(2, &["no id is named"]);
-    run(&["look-up", "a", "-7"]).expect(2, &["no option `-7`"]);
-    run(&["look-up", "a", "7x"]).expect(2, &["`7x` is no id"]);
-    run(&["check", "no/such/file"]).expect(2, &["cannot read no/such/file"]);
 }
 
 #[test]
@@ -55,9 +33,9 @@ fn there_and_back() {
     let again = folder.path("again");
     run(&["read", &column, "--output", &again]).expect(0, &[]);
     assert_eq!(fs::read_to_string(&again).unwrap(), "65536 -1\n");
-    run_with(&["write", "-o", &column], b"").expect(0, &["0 pairs in 23 bytes"]);
+    run_with(&["write", "-fo", &column], b"").expect(0, &["0 pairs in 23 bytes"]);
     let bytes = fs::read(&column).unwrap();
-    run_with(&["check", "-"], &bytes).expect(0, &["-: sound, 0 pairs"]);
+    run_with(&["check", "-"], &bytes).expect(0, &["standard input: sound, 0 pairs"]);
     run(&["show", &column]).expect(0, &["Blocks of 65536 ids (0)"]);
     assert_eq!(folder.names(), ["again", "column", "list"]);
 }
@@ -66,33 +44,28 @@ fn there_and_back() {
 fn lists_that_are_refused_leave_nothing() {
     let folder = Folder::new("refused_lists");
     let kept = folder.put("kept", "as it was");
-    for (text, power, words) in [
-        ("1 2\n\n4 4\n4 5\n", "9", &["line 4: refusal 3, ORDER"][..]),
-        ("7 1\n2147352576 4\n", "9", &["line 2: refusal 4, RANGE"]),
-        ("7 1\n", "6", &["refusal 2, POWER", "7 to 15"]),
-        ("7 1\n8\n", "9", &["line 2: `8` has no value"]),
-        ("7 1\n8 x\n", "9", &["line 2: `x` is no value"]),
+    for (text, words) in [
+        ("1 2\n\n4 4\n4 5\n", &["line 4: refusal 3, ORDER"][..]),
+        ("7 1\n2147352576 4\n", &["line 2: refusal 4, RANGE"]),
+        ("7 1\n99999999999 1\n", &["line 2: refusal 4, RANGE"]),
+        ("7 1\n8\n", &["line 2: refusal 101, TEXT: `8` has no value"]),
         (
-            "7 1\n99999999999 1\n",
-            "9",
-            &["line 2: `99999999999` is no id"],
+            "7 1\n8 x\n",
+            &["line 2: refusal 101, TEXT: `x` is no value"],
         ),
     ] {
         let list = folder.put("list", text);
         for output in [&folder.path("new"), &kept] {
-            run(&["write", &list, "-o", output, "-p", power]).expect(1, words);
+            run(&["write", &list, "-o", output]).expect(1, words);
         }
-        run_with(&["write", "-o", &kept, "-p", power], text.as_bytes()).expect(1, words);
+        run_with(&["write", "-o", &kept], text.as_bytes()).expect(1, words);
         assert_eq!(folder.names(), ["kept", "list"]);
         assert_eq!(fs::read(&kept).unwrap(), b"as it was");
     }
-    run_with(&["write", "-o", &folder.path("list")], b"\xFF\xFE 1\n")
-        .expect(1, &["line 1: this is no text"]);
 }
 
-#[test]
-fn files_that_are_no_columns() {
-    let folder = Folder::new("no_columns");
+/// Files that are no columns, and how each is refused.
+fn no_columns() -> Vec<(&'static str, Vec<u8>, &'static str)> {
     let sound = small_column();
     let mut damaged = sound.clone();
     damaged[26] |= 1;
@@ -102,58 +75,56 @@ fn files_that_are_no_columns() {
     huge.numbers[parts::COUNT] = signalfern::MAX_COUNT;
     huge.numbers[parts::WIDTH] = 0;
     huge.numbers[parts::VALUE_BYTES] = 0;
-    let huge_count = [&huge.bytes()[..], &[]].concat();
+    let huge_count = huge.bytes();
     huge.values.clear();
     let claims_all = huge.bytes();
     huge.numbers[parts::ID_BYTES] = u64::MAX;
     let mut too_many = Parts::of(&sound);
     too_many.numbers[parts::COUNT] = u64::MAX;
+    let eleven = [&[0xFF; 11][..], &sound].concat();
+    let extended = [&sound[..], &[0]].concat();
+    vec![
+        ("empty", Vec::new(), "refusal 7, SHORT"),
+        ("header cut", sound[..5].to_vec(), "refusal 7, SHORT"),
+        ("eleven bytes", eleven, "refusal 8, NUMBER"),
+        ("text", b"0 150\n2 140\n".to_vec(), "refusal 9, EDITION"),
+        ("too many", too_many.bytes(), "refusal 10, HEADER"),
+        ("cut", sound[..20].to_vec(), "refusal 11, LENGTH"),
+        ("extended", extended, "refusal 11, LENGTH"),
+        ("huge count", huge_count, "refusal 11, LENGTH"),
+        ("huge section", huge.bytes(), "refusal 11, LENGTH"),
+        ("claims all", claims_all, "refusal 13, DAMAGED"),
+        ("spare bit", damaged, "refusal 13, DAMAGED"),
+        ("broken", broken, "refusal 13, DAMAGED"),
+    ]
+}
 
-    // The refusal, and whether the look-up gives it too.
-    for (name, bytes, refusal, opens) in [
-        ("empty", Vec::new(), "refusal 7, SHORT", false),
-        ("header cut", sound[..5].to_vec(), "refusal 7, SHORT", false),
-        (
-            "eleven bytes",
-            [&[0xFF; 11][..], &sound].concat(),
-            "refusal 8, NUMBER",
-            false,
-        ),
-        (
-            "text",
-            b"0 150\n2 140\n".to_vec(),
-            "refusal 9, EDITION",
-            false,
-        ),
-        ("too many", too_many.bytes(), "refusal 10, HEADER", false),
-        ("cut", sound[..20].to_vec(), "refusal 11, LENGTH", false),
-        (
-            "extended",
-            [&sound[..], &[0]].concat(),
-            "refusal 11, LENGTH",
-            false,
-        ),
-        ("huge count", huge_count, "refusal 11, LENGTH", false),
-        ("huge section", huge.bytes(), "refusal 11, LENGTH", false),
-        ("claims all", claims_all, "refusal 13, DAMAGED", true),
-        ("spare bit", damaged, "refusal 13, DAMAGED", true),
-        ("broken", broken, "refusal 13, DAMAGED", true),
-    ] {
+#[test]
+fn files_that_are_no_columns() {
+    let folder = Folder::new("no_columns");
+    for (name, bytes, refusal) in no_columns() {
         let file = folder.put("file", &bytes);
         let output = folder.path("output");
-        run(&["check", &file]).expect(1, &[&file, refusal]);
+        run(&["check", &file]).expect(1, &[&file, refusal, "What to do: "]);
         run(&["read", &file]).expect(1, &[&file, refusal]);
         run(&["read", &file, "-o", &output]).expect(1, &[&file, refusal]);
-        run(&["show", &file]).expect(1, &[&file, refusal]);
-        let asked = run(&["look-up", &file, "2"]);
-        if !opens {
-            asked.expect(1, &[&file, refusal]);
-        } else if name == "broken" {
-            asked.expect(1, &["id 2: refusal 15, BROKEN"]);
-        }
+        run(&["look-up", &file, "2"]).expect(1, &[&file, refusal]);
+        let shown = run(&["show", &file]).expect_all(1, &["What to do: "]);
+        assert!(
+            shown.err.contains(refusal) && shown.out.contains("REFUSED"),
+            "{name}"
+        );
+        // By a pipe, of which nobody knows the length, it is the same.
+        let piped = run_with(&["check", "-"], &bytes);
+        piped.expect(1, &["standard input: ", refusal]);
         assert_eq!(folder.names(), ["file"], "{name}");
     }
-    let file = folder.put("file", &sound);
+}
+
+#[test]
+fn ids_that_are_too_great() {
+    let folder = Folder::new("great_ids");
+    let file = folder.put("file", small_column());
     for id in ["2147352576", "4294967296"] {
         run(&["look-up", &file, id]).expect(1, &[&format!("id {id}: refusal 14, ID")]);
     }
@@ -163,29 +134,6 @@ fn files_that_are_no_columns() {
         (asked.status, asked.out.as_str()),
         (1, "7 135 ordinal 2 words 0\n")
     );
-}
-
-#[test]
-fn outputs_that_cannot_be() {
-    let folder = Folder::new("outputs");
-    let column = folder.put("column", small_column());
-    fs::create_dir(folder.path("folder")).unwrap();
-    for output in [
-        "/dev/null",
-        &folder.path("folder"),
-        &folder.path("none/column"),
-    ] {
-        run_with(&["write", "-o", output], b"1 1\n").expect(2, &["cannot write", output]);
-        run(&["read", &column, "-o", output]).expect(2, &["cannot write", output]);
-    }
-    assert_eq!(folder.names(), ["column", "folder"]);
-    // A link stays one: what it leads to is replaced.
-    std::os::unix::fs::symlink("column", folder.path("link")).unwrap();
-    run_with(&["write", "-o", &folder.path("link")], b"1 1\n").expect(0, &["1 pair"]);
-    assert!(fs::symlink_metadata(folder.path("link"))
-        .unwrap()
-        .is_symlink());
-    run(&["check", &column]).expect(0, &["1 pair"]);
 }
 
 #[test]
@@ -208,8 +156,7 @@ fn show_stays_short() {
 fn a_reader_that_has_enough() {
     let folder = Folder::new("closed_pipe");
     let ids: Vec<u32> = (0..200_000).collect();
-    let bytes = signalfern::write_to_vec(&ids, &vec![1; ids.len()], 9).unwrap();
-    let column = folder.put("column", bytes);
+    let column = folder.column("column", &ids, &vec![1; ids.len()]);
     let mut child = tool()
         .args(["read", &column])
         .stdout(Stdio::piped())
@@ -225,8 +172,24 @@ fn a_reader_that_has_enough() {
 #[test]
 fn the_demo() {
     let folder = Folder::new("demo");
-    let shown = run(&["demo", folder.0.to_str().unwrap()]);
+    let path = folder.path("new");
+    let shown = run(&["demo", &path]);
     let words = ["$ signalfern check", "the same lines", "dense", "Where the"];
     shown.expect(0, &words);
-    assert_eq!(folder.names(), ["again.txt", "scores.column", "scores.txt"]);
+    let left = ["again.txt", "scores.column", "scores.txt"];
+    assert_eq!(Folder(path.clone().into()).names(), left);
+
+    // What is there already stays, whichever of the files it is.
+    run(&["demo", &path]).expect(2, &["scores.txt is there already"]);
+    let other = Folder::new("demo_again");
+    other.put("again.txt", "mine");
+    run(&["demo", other.0.to_str().unwrap()]).expect(2, &["again.txt is there already"]);
+    assert_eq!(other.names(), ["again.txt"]);
+
+    // Without a folder it says where the files are.
+    let shown = tool().arg("demo").env("TMPDIR", &path).output().unwrap();
+    let shown = String::from_utf8(shown.stdout).unwrap();
+    let (_, place) = shown.trim_end().rsplit_once("The files are in ").unwrap();
+    assert!(place.starts_with(&path), "{place}");
+    assert_eq!(Folder(place.into()).names(), left);
 }

@@ -64,7 +64,7 @@ pub fn by_column(bytes: &[u8], ids: &[u32], runs: usize) -> Measured {
     Measured::of(
         runs,
         &mut Turns::new(ids),
-        |turns| turns.sum(|id| value(ours.look_up(bytes, id))),
+        |turns| turns.sum(|id| value(ours.look_up(id))),
         |turns| turns.sum(|id| reference_value(reference_look_up_in(&theirs, bytes, id))),
     )
 }
@@ -92,7 +92,7 @@ impl<'a> Turns<'a> {
 fn value(answer: Result<signalfern::Answer, signalfern::Refusal>) -> u64 {
     match answer {
         Ok(signalfern::Answer::Found { value, .. }) => value as u64,
-        Ok(signalfern::Answer::Absent { words }) => words,
+        Ok(signalfern::Answer::Absent { words, .. }) => words,
         Err(refusal) => refusal.number(),
     }
 }

@@ -19,16 +19,17 @@ impl Tally {
             self.count(read.as_ref().err().copied());
             if let Ok((ids, values)) = read {
                 // Accepted bytes are the column of what is read.
-                let power = same::open(bytes).unwrap().power as u32;
+                let power = same::open(bytes).unwrap().power() as u32;
                 assert!(signalfern::write_to_vec(&ids, &values, power).unwrap() == bytes);
             }
+            assert_eq!(same::walk(bytes).err(), checked.err());
         }
         let opened = same::open(bytes);
         for &id in asked {
             let answer = same::look_up(bytes, id);
             self.count(answer.err());
             if let Ok(column) = opened {
-                assert_eq!(same::look_up_in(column, bytes, id), answer);
+                assert_eq!(same::look_up_in(column.header(), bytes, id), answer);
             }
         }
     }

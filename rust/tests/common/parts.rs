@@ -47,6 +47,26 @@ impl Parts {
         }
     }
 
+    /// The first `blocks` blocks full, more than one of them, and 42 for every value.
+    pub fn full_blocks(blocks: u32) -> Self {
+        let mut ids = Vec::new();
+        for number in 0..blocks as u16 {
+            ids.extend(number.to_le_bytes());
+            ids.extend([0xFF, 0xFF]);
+        }
+        ids.extend([0xFF, 0x7F, 0, 0, 0xFF, 0xFF]);
+        for number in 0..=blocks {
+            ids.extend((number << 16).to_le_bytes());
+            ids.extend((4 * number).to_le_bytes());
+        }
+        let (count, jumps) = (u64::from(blocks) << 16, u64::from(blocks) + 1);
+        Self {
+            numbers: [1, count, 9, ids.len() as u64, jumps, 0, 84, 1, 0],
+            ids,
+            values: Vec::new(),
+        }
+    }
+
     /// The bytes, with the header as it stands.
     pub fn bytes(&self) -> Vec<u8> {
         let mut out = Vec::new();

@@ -1,7 +1,7 @@
 //! Each call of the library beside the reference, on buffers filled beforehand.
 
-use signalfern::{Answer, Column, Refusal};
-use signalfern_reference as reference;
+use signalfern::{Checked, Column, Header, Refusal};
+use signalfern_reference::{self as reference, Answer};
 
 fn numbers(refusal: Refusal) -> (u64, u64) {
     (refusal.number(), refusal.number_with())
@@ -85,57 +85,101 @@ pub fn read(
     result.map(|_| (our_ids, our_values))
 }
 
-fn answered(answer: reference::Answer) -> Answer {
+/// The bytes as a checked column, if the check accepts them: the walk gives the pairs that the
+/// reading gives.
+#[track_caller]
+pub fn walk(bytes: &[u8]) -> Result<Checked<'_>, Refusal> {
+    let result = Checked::new(bytes);
+    assert_eq!(result.map(|column| column.len() as u64), check(bytes));
+    if let Ok(column) = result {
+        let (ids, values) = read(bytes, column.len(), column.len())?;
+        let pairs = ids.into_iter().zip(values);
+        assert!(column.iter().eq(pairs), "other pairs than the reading's");
+    }
+    result
+}
+
+/// The library's answer in the reference's type: only the library can make its own.
+pub fn told(answer: signalfern::Answer) -> Answer {
+    let words = answer.words();
     match answer {
-        reference::Answer::Found {
-            ordinal,
-            value,
-            words,
-        } => Answer::Found {
+        signalfern::Answer::Found { ordinal, value, .. } => Answer::Found {
             ordinal,
             value,
             words,
         },
-        reference::Answer::Absent { words } => Answer::Absent { words },
+        signalfern::Answer::Absent { .. } => Answer::Absent { words },
     }
 }
 
 /// Opens the bytes with both.
 #[track_caller]
-pub fn open(bytes: &[u8]) -> Result<Column, Refusal> {
+pub fn open(bytes: &[u8]) -> Result<Column<'_>, Refusal> {
     let result = Column::open(bytes);
     let expected = plain(reference::open(bytes));
-    assert_eq!(result.map(to_reference).map_err(numbers), expected);
+    let opened = result.map(|column| to_reference(column.header()));
+    assert_eq!(opened.map_err(numbers), expected);
+    if let Ok(column) = result {
+        by_methods(column, bytes);
+    }
     result
+}
+
+/// What the methods tell is what stands in the header.
+#[track_caller]
+fn by_methods(column: Column, bytes: &[u8]) {
+    let header = column.header();
+    assert_eq!(column.count(), header.count);
+    assert_eq!(column.power(), header.power);
+    assert_eq!(column.id_bytes(), header.id_bytes);
+    assert_eq!(column.jump_count(), header.jump_count);
+    assert_eq!(column.width(), header.width);
+    assert_eq!(column.smallest(), header.smallest);
+    assert_eq!(column.divisor(), header.divisor);
+    assert_eq!(column.value_bytes(), header.value_bytes);
+    assert_eq!(column.start(), header.start);
+    assert_eq!(column.len() as u64, header.count);
+    assert_eq!(column.is_empty(), header.count == 0);
+    assert!(std::ptr::eq(column.bytes(), bytes));
 }
 
 /// Looks up by the bytes and, where they open, by the opened column.
 #[track_caller]
 pub fn look_up(bytes: &[u8], id: u32) -> Result<Answer, Refusal> {
-    let result = signalfern::look_up(bytes, id);
-    let expected = plain(reference::look_up(bytes, id)).map(answered);
+    let result = signalfern::look_up(bytes, id).map(told);
+    let expected = plain(reference::look_up(bytes, id));
     assert_eq!(result.map_err(numbers), expected, "id {id}");
+    if let Ok(column) = Column::open(bytes) {
+        assert_eq!(column.look_up(id).map(told), result, "id {id}");
+    }
     result
 }
 
+/// Looks up by any numbers in any bytes.
 #[track_caller]
-pub fn look_up_in(column: Column, bytes: &[u8], id: u32) -> Result<Answer, Refusal> {
-    let result = column.look_up(bytes, id);
-    let expected = plain(reference::look_up_in(&to_reference(column), bytes, id)).map(answered);
-    assert_eq!(result.map_err(numbers), expected, "{column:?} id {id}");
+pub fn look_up_in(header: Header, bytes: &[u8], id: u32) -> Result<Answer, Refusal> {
+    let result = header.look_up_in(bytes, id).map(told);
+    let expected = plain(reference::look_up_in(&to_reference(header), bytes, id));
+    assert_eq!(result.map_err(numbers), expected, "{header:?} id {id}");
     result
 }
 
-fn to_reference(column: Column) -> reference::Column {
+fn to_reference(header: Header) -> reference::Column {
+    let smallest = i128::from(header.smallest);
+    let least = if smallest < 0 {
+        -2 * smallest - 1
+    } else {
+        2 * smallest
+    };
     reference::Column {
-        count: column.count,
-        power: column.power,
-        id_bytes: column.id_bytes,
-        jump_count: column.jump_count,
-        bits: column.bits,
-        least: column.least,
-        step: column.step,
-        value_bytes: column.value_bytes,
-        start: column.start,
+        count: header.count,
+        power: header.power,
+        id_bytes: header.id_bytes,
+        jump_count: header.jump_count,
+        bits: header.width,
+        least: least as u64,
+        step: header.divisor,
+        value_bytes: header.value_bytes,
+        start: header.start,
     }
 }

@@ -2,36 +2,59 @@
 
 use std::fs;
 use std::io::Write;
+use std::os::unix::process::ExitStatusExt;
 use std::path::{Path, PathBuf};
-use std::process::{Command, Stdio};
+use std::process::{Command, Output, Stdio};
 
 /// What a run of the tool left behind.
 pub struct Ran {
+    /// The exit status; for a signal, 128 and its number, as a shell has it.
     pub status: i32,
     pub out: String,
     pub err: String,
 }
 
+impl From<Output> for Ran {
+    fn from(output: Output) -> Self {
+        let signal = || 128 + output.status.signal().unwrap();
+        Self {
+            status: output.status.code().unwrap_or_else(signal),
+            out: String::from_utf8_lossy(&output.stdout).into_owned(),
+            err: String::from_utf8_lossy(&output.stderr).into_owned(),
+        }
+    }
+}
+
 impl Ran {
+    /// A run that printed and did not complain, or complained and printed nothing.
     #[track_caller]
     pub fn expect(self, status: i32, words: &[&str]) -> Self {
-        assert_eq!(self.status, status, "{}{}", self.out, self.err);
-        let text = if status == 0 { &self.out } else { &self.err };
+        let silent = if status == 0 { &self.err } else { &self.out };
+        assert!(silent.is_empty(), "{status}: {}{}", self.out, self.err);
+        self.expect_all(status, words)
+    }
+
+    /// A run with these words on either stream.
+    #[track_caller]
+    pub fn expect_all(self, status: i32, words: &[&str]) -> Self {
+        let text = format!("{}{}", self.out, self.err);
+        assert_eq!(self.status, status, "{text}");
         for word in words {
             assert!(text.contains(word), "no `{word}` in: {text}");
         }
-        assert!(status == 0 || self.out.is_empty(), "printed: {}", self.out);
-        assert!(
-            status != 0 || self.err.is_empty(),
-            "complained: {}",
-            self.err
-        );
+        assert!(!text.contains("panicked"), "{text}");
         self
     }
 }
 
+/// The tool that was built with these tests. (`SIGNALFERN_TOOL` names another, such as one that is
+/// installed.)
+pub fn tool_path() -> String {
+    std::env::var("SIGNALFERN_TOOL").unwrap_or(env!("CARGO_BIN_EXE_signalfern").to_string())
+}
+
 pub fn tool() -> Command {
-    Command::new(env!("CARGO_BIN_EXE_signalfern"))
+    Command::new(tool_path())
 }
 
 pub fn run_with(words: &[&str], input: &[u8]) -> Ran {
@@ -44,12 +67,7 @@ pub fn run_with(words: &[&str], input: &[u8]) -> Ran {
         .unwrap();
     // The tool may end before it reads.
     let _ = child.stdin.take().unwrap().write_all(input);
-    let output = child.wait_with_output().unwrap();
-    Ran {
-        status: output.status.code().expect("no signal"),
-        out: String::from_utf8(output.stdout).unwrap(),
-        err: String::from_utf8(output.stderr).unwrap(),
-    }
+    child.wait_with_output().unwrap().into()
 }
 
 pub fn run(words: &[&str]) -> Ran {
@@ -76,6 +94,15 @@ impl Folder {
         self.path(name)
     }
 
+    /// A column of these pairs.
+    pub fn column(&self, name: &str, ids: &[u32], values: &[i64]) -> String {
+        self.put(name, signalfern::write_to_vec(ids, values, 9).unwrap())
+    }
+
+    pub fn bytes(&self, name: &str) -> Vec<u8> {
+        fs::read(self.0.join(name)).unwrap()
+    }
+
     pub fn names(&self) -> Vec<String> {
         let entries = fs::read_dir(&self.0).unwrap();
         let mut names: Vec<String> = entries
@@ -84,4 +111,25 @@ impl Folder {
         names.sort();
         names
     }
+
+    /// Runs a script in the folder, as somebody would type it; `signalfern` is the tool.
+    pub fn shell(&self, script: &str) -> Ran {
+        let script = format!("signalfern() {{ \"$SIGNALFERN\" \"$@\"; }}\n{script}");
+        let output = Command::new("bash")
+            .args(["-c", &script])
+            .current_dir(&self.0)
+            .env("SIGNALFERN", tool_path())
+            .stdin(Stdio::null())
+            .output()
+            .unwrap();
+        output.into()
+    }
+}
+
+/// Whether a program is there that a test can do without.
+pub fn has_program(name: &str) -> bool {
+    let found = Command::new("sh")
+        .args(["-c", "command -v \"$0\"", name])
+        .output();
+    found.is_ok_and(|output| output.status.success())
 }

@@ -1,84 +1,149 @@
 //! The words of a command line, taken apart.
 
 use std::ffi::{OsStr, OsString};
+use std::os::unix::ffi::OsStrExt;
 use std::path::PathBuf;
 
 use crate::failure::Failure;
-use crate::files;
-
-/// A command's name, its help, and the options that it takes (each with a value).
-pub struct Command {
-    pub name: &'static str,
-    pub help: &'static str,
-    pub options: &'static [(&'static str, &'static str)],
-}
-
-/// The option for an output file, short and long.
-pub const OUTPUT: (&str, &str) = ("-o", "--output");
-/// The option for the rank power.
-pub const POWER: (&str, &str) = ("-p", "--power");
+use crate::nearest::did_you_mean;
+use crate::table::{Choice, Command};
+use crate::text::quoted;
 
 /// What stood on the command line.
 pub struct Arguments {
     command: &'static Command,
     words: std::vec::IntoIter<OsString>,
-    values: Vec<(&'static str, OsString)>,
+    chosen: Vec<(&'static str, OsString)>,
 }
 
+/// The words after a command, or the wish for its help.
+pub enum Parsed {
+    Arguments(Arguments),
+    Help,
+}
+
+/// An option as it was typed, its table entry, and what was joined to it.
+type Found<'a> = (String, &'static Choice, Option<&'a OsStr>);
+
 impl Command {
-    /// Takes the words after the command apart; `None` if they ask for help, which is then printed.
-    pub fn parse(&'static self, words: &[OsString]) -> Result<Option<Arguments>, Failure> {
+    /// Takes the words after the command apart.
+    pub fn parse(&'static self, words: &[OsString]) -> Result<Parsed, Failure> {
         let mut plain = Vec::new();
-        let mut values: Vec<(&'static str, OsString)> = Vec::new();
+        let mut chosen: Vec<(&'static str, OsString)> = Vec::new();
         let mut words = words.iter();
         while let Some(word) = words.next() {
-            let text = word.to_str().unwrap_or("");
-            match text {
-                "-h" | "--help" => {
-                    files::print(self.help)?;
-                    return Ok(None);
+            if word == "--" {
+                plain.extend(words.by_ref().cloned());
+                break;
+            }
+            if word == "-h" || word == "--help" {
+                return Ok(Parsed::Help);
+            }
+            if word.len() < 2 || !word.as_bytes().starts_with(b"-") {
+                plain.push(word.clone());
+                continue;
+            }
+            for (typed, choice, joined) in self.options_in(word)? {
+                let value = match (choice.value, joined) {
+                    (None, None) => OsString::new(),
+                    (None, Some(_)) => return Err(self.usage(format!("`{typed}` takes no value"))),
+                    (Some(_), Some(joined)) => joined.to_os_string(),
+                    (Some(_), None) => match words.next() {
+                        Some(next) => next.clone(),
+                        None => return Err(self.usage(format!("`{typed}` needs a value"))),
+                    },
+                };
+                if chosen.iter().any(|(before, _)| *before == choice.long) {
+                    return Err(self.usage(format!("`--{}` stands twice", choice.long)));
                 }
-                "--" => plain.extend(words.by_ref().cloned()),
-                _ if text.len() < 2 || !text.starts_with('-') => plain.push(word.clone()),
-                _ => {
-                    let (name, joined) = match text.split_once('=') {
-                        Some((name, value)) => (name, Some(OsString::from(value))),
-                        None => (text, None),
-                    };
-                    let known = |(short, long): &&(&str, &str)| *short == name || *long == name;
-                    let Some(&(_, long)) = self.options.iter().find(known) else {
-                        return Err(self.usage(format!("there is no option `{name}`")));
-                    };
-                    let Some(value) = joined.or_else(|| words.next().cloned()) else {
-                        return Err(self.usage(format!("`{name}` needs a value")));
-                    };
-                    if values.iter().any(|(before, _)| *before == long) {
-                        return Err(self.usage(format!("`{long}` stands twice")));
-                    }
-                    values.push((long, value));
-                }
+                chosen.push((choice.long, value));
             }
         }
-        Ok(Some(Arguments {
+        Ok(Parsed::Arguments(Arguments {
             command: self,
             words: plain.into_iter(),
-            values,
+            chosen,
         }))
     }
 
+    /// The options in a word that starts with `-`: a long one, or some short ones.
+    fn options_in<'a>(&self, word: &'a OsStr) -> Result<Vec<Found<'a>>, Failure> {
+        let bytes = word.as_bytes();
+        if let Some(long) = bytes.strip_prefix(b"--") {
+            let end = long.iter().position(|&byte| byte == b'=');
+            let name = &long[..end.unwrap_or(long.len())];
+            let joined = end.map(|end| OsStr::from_bytes(&long[end + 1..]));
+            let found = self.options.iter().find(|it| it.long.as_bytes() == name);
+            return match found {
+                Some(choice) => Ok(vec![(format!("--{}", choice.long), choice, joined)]),
+                None => Err(self.no_option(&word.as_bytes()[..name.len() + 2])),
+            };
+        }
+        let mut found = Vec::new();
+        for (at, byte) in bytes.iter().enumerate().skip(1) {
+            let letter = char::from(*byte);
+            let Some(choice) = self.options.iter().find(|it| it.short == Some(letter)) else {
+                return Err(self.no_option(bytes));
+            };
+            let rest = &bytes[at + 1..];
+            let rest = rest.strip_prefix(b"=").unwrap_or(rest);
+            let takes_rest = choice.value.is_some() && !rest.is_empty();
+            let joined = takes_rest.then(|| OsStr::from_bytes(rest));
+            found.push((format!("-{letter}"), choice, joined));
+            if takes_rest {
+                break;
+            }
+        }
+        Ok(found)
+    }
+
+    fn no_option(&self, typed: &[u8]) -> Failure {
+        let names: Vec<String> = (self.options.iter())
+            .map(|choice| format!("--{}", choice.long))
+            .collect();
+        let hint = did_you_mean(&String::from_utf8_lossy(typed), &names);
+        self.usage(format!("there is no option {}{hint}", quoted(typed)))
+    }
+
     /// A wrong command line.
-    pub fn usage(&self, message: String) -> Failure {
+    pub fn usage(&self, message: impl std::fmt::Display) -> Failure {
         Failure::usage(message, Some(self.name))
     }
 }
 
 impl Arguments {
     /// The value of an option.
-    pub fn value(&self, (_, long): (&str, &str)) -> Option<&OsStr> {
-        let mut values = self.values.iter();
-        values
+    pub fn value(&self, long: &str) -> Option<&OsStr> {
+        let mut chosen = self.chosen.iter();
+        chosen
             .find(|(name, _)| *name == long)
             .map(|(_, value)| value.as_os_str())
+    }
+
+    /// Whether an option without a value is there.
+    pub fn has(&self, long: &str) -> bool {
+        self.value(long).is_some()
+    }
+
+    /// The value of an option as a path.
+    pub fn path(&self, long: &str) -> Option<PathBuf> {
+        self.value(long).map(PathBuf::from)
+    }
+
+    /// A number that an option gives.
+    pub fn number<T: std::str::FromStr>(
+        &self,
+        long: &str,
+        what: &str,
+    ) -> Result<Option<T>, Failure> {
+        let Some(word) = self.value(long) else {
+            return Ok(None);
+        };
+        let number = word.to_str().and_then(|word| word.parse().ok());
+        match number {
+            Some(number) => Ok(Some(number)),
+            None => Err(self.usage(format!("{} is no {what}", quoted(word.as_bytes())))),
+        }
     }
 
     /// The next plain word.
@@ -95,13 +160,18 @@ impl Arguments {
     }
 
     /// Refuses words that are left over.
-    pub fn finish(mut self) -> Result<(), Failure> {
+    pub fn finish(&mut self) -> Result<(), Failure> {
         match self.next() {
             None => Ok(()),
             Some(word) => {
-                let message = format!("`{}` is one word too many", word.to_string_lossy());
-                Err(self.command.usage(message))
+                let word = quoted(word.as_bytes());
+                Err(self.usage(format!("{word} is one word too many")))
             }
         }
+    }
+
+    /// A wrong command line.
+    pub fn usage(&self, message: impl std::fmt::Display) -> Failure {
+        self.command.usage(message)
     }
 }

@@ -2,50 +2,55 @@
 
 use std::ffi::OsString;
 use std::fs;
+use std::hash::{BuildHasher, RandomState};
 use std::io::Write;
 use std::path::{Path, PathBuf};
 
-use crate::arguments::Command;
+use crate::arguments::Arguments;
 use crate::failure::Failure;
-use crate::{files, help, run};
+use crate::output::{print, Output};
+use crate::text::named;
 
-pub fn demo(words: &[OsString]) -> Result<(), Failure> {
-    static COMMAND: Command = Command {
-        name: "demo",
-        help: help::DEMO,
-        options: &[],
-    };
-    let Some(mut arguments) = COMMAND.parse(words)? else {
-        return Ok(());
-    };
-    let folder = arguments.next().map_or_else(
-        || std::env::temp_dir().join(format!("signalfern-demo-{}", std::process::id())),
-        PathBuf::from,
-    );
+pub fn run(mut arguments: Arguments) -> Result<(), Failure> {
+    let folder = arguments.next().map(PathBuf::from);
     arguments.finish()?;
-    fs::create_dir_all(&folder).map_err(|error| Failure::file("make", &folder, &error))?;
-
-    let (list, column) = (folder.join("scores.txt"), folder.join("scores.column"));
-    let again = folder.join("again.txt");
-    files::write_whole(&list, write_scores)?;
+    let folder = match folder {
+        Some(folder) => fs::create_dir_all(&folder)
+            .map(|()| folder.clone())
+            .map_err(|error| Failure::file("make", &folder, &error))?,
+        None => new_folder()?,
+    };
+    let [list, column, again] =
+        ["scores.txt", "scores.column", "again.txt"].map(|name| folder.join(name));
+    for path in [&list, &column, &again] {
+        if fs::symlink_metadata(path).is_ok() {
+            let message = format!("{} is there already, and is not replaced", named(path));
+            return Err(Failure::Trouble(message));
+        }
+    }
+    Output::open(&list, false, &[])?.fill(write_scores)?;
     step(&["write".as_ref(), &list, "-o".as_ref(), &column])?;
     step(&["check".as_ref(), &column])?;
     step(&["read".as_ref(), &column, "-o".as_ref(), &again])?;
-    let same = files::read(&list)? == files::read(&again)?;
-    files::print(if same {
-        "the same lines as at first\n"
-    } else {
-        "other lines than at first\n"
-    })?;
+    let read = |path: &Path| fs::read(path).map_err(|error| Failure::file("read", path, &error));
+    if read(&list)? != read(&again)? {
+        let message = "the pairs read are not those written";
+        return Err(Failure::Trouble(message.to_string()));
+    }
+    print("the same lines as at first\n")?;
     let ids = ["7", "8", "70001", "200000", "2147352575"].map(Path::new);
     step(&[&["look-up".as_ref(), column.as_path()], &ids[..]].concat())?;
     step(&["show".as_ref(), &column])?;
-    if same {
-        Ok(())
-    } else {
-        Err(Failure::Trouble(
-            "the pairs read are not those written".to_string(),
-        ))
+    print(&format!("\nThe files are in {}\n", named(&folder)))
+}
+
+/// A folder of our own among the temporary files, where others may make folders too.
+fn new_folder() -> Result<PathBuf, Failure> {
+    let random = RandomState::new().hash_one(std::process::id());
+    let folder = std::env::temp_dir().join(format!("signalfern-demo-{random:016x}"));
+    match fs::create_dir(&folder) {
+        Ok(()) => Ok(folder),
+        Err(error) => Err(Failure::file("make", &folder, &error)),
     }
 }
 
@@ -63,11 +68,8 @@ fn write_scores(out: &mut dyn Write) -> std::io::Result<()> {
 
 /// Prints a command line as one would type it, and runs it.
 fn step(words: &[&Path]) -> Result<(), Failure> {
-    let typed: Vec<String> = words
-        .iter()
-        .map(|word| word.display().to_string())
-        .collect();
-    files::print(&format!("\n$ signalfern {}\n", typed.join(" ")))?;
+    let typed: Vec<String> = words.iter().map(|word| named(word)).collect();
+    print(&format!("\n$ signalfern {}\n", typed.join(" ")))?;
     let words: Vec<OsString> = words.iter().map(OsString::from).collect();
-    run(&words)
+    crate::run(&words)
 }

@@ -1,68 +1,172 @@
-//! The help texts.
+//! The help texts, made from the table, within 80 columns.
 
-pub const ALL: &str = "\
-signalfern: score columns, by proved calls
+use std::fmt::Write;
+use std::os::unix::ffi::OsStrExt;
 
-A column is a file that holds pairs of an id (0 to 2147352575, ascending) and a signed 64-bit value.
+use crate::arguments::Arguments;
+use crate::completions;
+use crate::failure::Failure;
+use crate::man;
+use crate::nearest::did_you_mean;
+use crate::output::print;
+use crate::table::{Choice, Command, ABOUT, COMMANDS, INTRODUCTION, STANDARD, STATUS};
+use crate::text::{quoted, wrapped};
 
-  signalfern write [FILE] -o COLUMN [--power P]   make a column of lines `ID VALUE`
-  signalfern check COLUMN                         tell whether it is sound, to the last bit
-  signalfern read COLUMN [-o FILE]                print its pairs as lines `ID VALUE`
-  signalfern look-up COLUMN ID...                 ask for single ids, without reading it whole
-  signalfern show COLUMN                          what is in it, and where the bytes go
-  signalfern demo [FOLDER]                        all of these on a small column
+/// Columns of a line.
+const WIDTH: usize = 79;
+/// Where the text about an option begins.
+const INDENT: usize = 24;
 
-Each command has its own --help. Where a file is to be read, - stands for standard input.
+pub fn run(mut arguments: Arguments) -> Result<(), Failure> {
+    let shell = arguments.value("completions").map(|shell| shell.to_owned());
+    let man = arguments.has("man");
+    let command = arguments.next();
+    arguments.finish()?;
+    match (command, shell, man) {
+        (None, None, false) => print(&all()),
+        (None, None, true) => print(&man::page()),
+        (None, Some(shell), false) => match shell.to_str().and_then(completions::of) {
+            Some(text) => print(&text),
+            None => {
+                let shell = quoted(shell.as_bytes());
+                Err(arguments.usage(format!("no completions for {shell}: bash, zsh or fish")))
+            }
+        },
+        (Some(name), None, false) => print(&of(find(&name)?)),
+        _ => Err(arguments.usage("a command, --man or --completions: one of them")),
+    }
+}
 
-Exit status: 0 done; 1 the input is refused (the refusal's number, name and meaning stand on
-standard error, and nothing is written); 2 the command line is wrong or a file cannot be used.
-";
+/// The command with this name.
+pub fn find(name: &std::ffi::OsStr) -> Result<&'static Command, Failure> {
+    if let Some(command) = COMMANDS.iter().find(|command| name == command.name) {
+        return Ok(command);
+    }
+    let names: Vec<String> = COMMANDS.iter().map(|it| it.name.to_string()).collect();
+    let hint = did_you_mean(&name.to_string_lossy(), &names);
+    let name = quoted(name.as_bytes());
+    Err(Failure::usage(
+        format!("there is no command {name}{hint}"),
+        None,
+    ))
+}
 
-pub const WRITE: &str = "\
-signalfern write [FILE] -o COLUMN [--power P]
+// Writing to a string cannot fail, so the results below are dropped.
 
-Makes a column of the lines of FILE, or of standard input. Each line is `ID VALUE`; ids ascend from
-line to line. Empty lines and lines that start with # are passed over.
+fn paragraph(out: &mut String, text: &str) {
+    if text.starts_with(' ') {
+        let _ = writeln!(out, "{text}");
+    } else {
+        for line in wrapped(text, WIDTH) {
+            let _ = writeln!(out, "{line}");
+        }
+    }
+}
 
-  -o, --output COLUMN   the column's file. It is written beside its place and then renamed, so it is
-                        whole or not there
-  -p, --power P         rank power: 0 for no ranks, or 7 to 15 for one rank to every 2^P ids of a
-                        dense block. The default is 9
-";
+/// The tool's help.
+pub fn all() -> String {
+    let mut out = format!("signalfern: {ABOUT}\n\n");
+    paragraph(&mut out, INTRODUCTION);
+    out.push('\n');
+    for command in COMMANDS {
+        for line in synopsis(command, "  signalfern ") {
+            let _ = writeln!(out, "{line}");
+        }
+        let _ = writeln!(out, "      {}", command.summary);
+    }
+    out.push('\n');
+    paragraph(
+        &mut out,
+        &format!("Each command has its own --help. {STANDARD}"),
+    );
+    out.push('\n');
+    paragraph(&mut out, STATUS);
+    out
+}
 
-pub const CHECK: &str = "\
-signalfern check COLUMN
+/// A command as it is typed, broken between its words.
+fn synopsis(command: &Command, lead: &str) -> Vec<String> {
+    let lead = format!("{lead}{} ", command.name);
+    // An option and its value stay together.
+    let joined = command.words.replace(" [", "\u{1}[").replace(' ', "\u{2}");
+    let joined = joined.replace('\u{1}', " ");
+    let lines = wrapped(&joined, WIDTH - lead.len());
+    let indent = " ".repeat(lead.len());
+    (lines.iter().enumerate())
+        .map(|(at, line)| {
+            let start = if at == 0 { &lead } else { &indent };
+            format!("{start}{}", line.replace('\u{2}', " "))
+        })
+        .collect()
+}
 
-Tells whether the file is a sound column, to the last bit, and how many pairs it holds.
-";
+/// The help of one command.
+pub fn of(command: &Command) -> String {
+    let mut out = String::new();
+    for line in synopsis(command, "signalfern ") {
+        let _ = writeln!(out, "{line}");
+    }
+    let mut shown_as_it_is = false;
+    for text in command.text {
+        // Lines shown as they are stand close together.
+        if !(shown_as_it_is && text.starts_with(' ')) {
+            out.push('\n');
+        }
+        shown_as_it_is = text.starts_with(' ');
+        paragraph(&mut out, text);
+    }
+    if !command.options.is_empty() {
+        out.push('\n');
+    }
+    for choice in command.options {
+        option(&mut out, choice);
+    }
+    out
+}
 
-pub const READ: &str = "\
-signalfern read COLUMN [-o FILE]
+fn option(out: &mut String, choice: &Choice) {
+    let name = format!("  {}", spelled(choice));
+    let lines = wrapped(choice.help, WIDTH - INDENT);
+    let mut first = format!("{name:<INDENT$}");
+    if name.len() + 2 > INDENT {
+        let _ = writeln!(out, "{name}");
+        first = " ".repeat(INDENT);
+    }
+    for line in lines {
+        let _ = writeln!(out, "{first}{line}");
+        first = " ".repeat(INDENT);
+    }
+}
 
-Prints the pairs of a column as lines `ID VALUE`. The whole column is checked before the first line.
+/// An option with its value, as `-p, --power P`.
+pub fn spelled(choice: &Choice) -> String {
+    let short = choice
+        .short
+        .map_or(String::new(), |letter| format!("-{letter}, "));
+    let value = choice
+        .value
+        .map_or(String::new(), |(name, _)| format!(" {name}"));
+    format!("{short}--{}{value}", choice.long)
+}
 
-  -o, --output FILE     to this file, which is whole or not there
-";
+#[cfg(test)]
+mod tests {
+    use super::*;
 
-pub const LOOK_UP: &str = "\
-signalfern look-up COLUMN ID...
-
-Asks a column for single ids. One line for each: the id, then its value, its ordinal (how many ids
-lie below it) and the bitmap words that were counted; or `absent`.
-
-The column is not checked in full: `signalfern check` does that.
-";
-
-pub const SHOW: &str = "\
-signalfern show COLUMN
-
-Shows the header, the blocks of ids with their kind and count (neighbours of one kind together), and
-where the bytes go. The whole column is checked first.
-";
-
-pub const DEMO: &str = "\
-signalfern demo [FOLDER]
-
-Makes a list of pairs and a column of it in FOLDER (a new one among the temporary files if none is
-named), then checks, reads, asks and shows it. Each command is printed before it runs.
-";
+    #[test]
+    fn help_fits_eighty_columns_and_names_every_option() {
+        let mut texts = vec![all()];
+        for command in COMMANDS {
+            let text = of(command);
+            for choice in command.options {
+                assert!(text.contains(&spelled(choice)), "{text}");
+            }
+            assert!(all().contains(command.summary));
+            texts.push(text);
+        }
+        for line in texts.iter().flat_map(|text| text.lines()) {
+            assert!(line.chars().count() < 80, "{line}");
+            assert_eq!(line, line.trim_end());
+        }
+    }
+}

@@ -1,48 +1,74 @@
 //! The tool `signalfern`: writes, checks, reads, asks and shows score columns.
+//!
+//! `table` holds the commands and options; the parser (`arguments`), `help`, `man` and `completions`
+//! are made from it. A command has a module of its own name. Below them: `input`, `lines`, `pairs` and
+//! `load` read; `output`, `temporary`, `printing` and `range` write; `column` is the one place that
+//! uses the package's opened column; `header` and `blocks` take bytes apart for `show` and for
+//! `diagnosis`, which explain a file and never judge it; all `unsafe` is in `system`.
 
 mod arguments;
-mod commands;
+mod blocks;
+mod causes;
+mod check;
+mod column;
+mod completions;
 mod demo;
+mod diagnosis;
 mod failure;
-mod files;
+mod header;
 mod help;
-mod layout;
+mod input;
+mod json;
+mod lines;
+mod load;
+mod look_up;
+mod man;
+mod memory;
+mod nearest;
+mod output;
 mod pairs;
+mod printing;
 mod progress;
+mod range;
+mod read;
+mod sha256;
 mod show;
+mod sidecar;
+mod system;
+mod table;
+mod temporary;
+mod text;
+mod write;
 
 use std::ffi::OsString;
 use std::process::ExitCode;
 
+use arguments::Parsed;
 use failure::Failure;
+use output::print;
 
 fn main() -> ExitCode {
     let words: Vec<OsString> = std::env::args_os().skip(1).collect();
     match run(&words) {
         Ok(()) => ExitCode::SUCCESS,
-        Err(failure) => failure.report(),
+        Err(failure) => ExitCode::from(failure.report()),
     }
 }
 
 /// Runs one command line, without the program's name.
 fn run(words: &[OsString]) -> Result<(), Failure> {
-    let Some((command, rest)) = words.split_first() else {
+    let Some((name, rest)) = words.split_first() else {
         return Err(Failure::usage("no command is given", None));
     };
-    match command.to_str() {
-        Some("write") => commands::write(rest),
-        Some("check") => commands::check(rest),
-        Some("read") => commands::read(rest),
-        Some("look-up") => commands::look_up(rest),
-        Some("show") => show::show(rest),
-        Some("demo") => demo::demo(rest),
-        Some("help" | "--help" | "-h") => files::print(help::ALL),
-        Some("--version" | "-V") => {
-            files::print(concat!("signalfern ", env!("CARGO_PKG_VERSION"), "\n"))
-        }
+    match name.to_str() {
+        Some("--help" | "-h") => print(&help::all()),
+        Some("--version" | "-V") => print(concat!("signalfern ", env!("CARGO_PKG_VERSION"), "\n")),
         _ => {
-            let message = format!("there is no command `{}`", command.to_string_lossy());
-            Err(Failure::usage(message, None))
+            let command = help::find(name)?;
+            match command.parse(rest)? {
+                Parsed::Help => print(&help::of(command)),
+                Parsed::Arguments(arguments) => (command.run)(arguments),
+            }
         }
     }
 }

@@ -1,0 +1,62 @@
+/*
+ * What the header declares beside the proved calls: names, sentences, the version. Plain C, since
+ * the proved language hands out no texts; rust/tests holds the names and sentences against those of
+ * the Rust package.
+ */
+#include "signalfern.h"
+
+struct refusal {
+    const char *name;
+    const char *text;
+};
+
+/* By number. */
+static const struct refusal refusals[] = {
+    {"NONE", "nothing was refused"},
+    {"LENGTHS", "there are not as many values as ids"},
+    {"POWER", "the rank power must be 0 (no ranks) or 7 to 15"},
+    {"ORDER", "ids must ascend, and one is not above the one before it"},
+    {"RANGE", "an id is above the greatest allowed, 2147352575"},
+    {"OFFSET", "a block of ids would start at byte 2147483647 or later"},
+    {"ROOM", "the output is too short for the column"},
+    {"SHORT", "the bytes end within the header: the column is empty or cut off"},
+    {"NUMBER", "a number of the header is not in its shortest form or needs more than 64 bits: "
+               "the header is damaged, or this is no column"},
+    {"EDITION", "the first number is not 1: this is no column, or one of another edition"},
+    {"HEADER", "the numbers of the header break a rule (a limit, or sizes that do not agree)"},
+    {"LENGTH", "the header tells of more or fewer bytes than there are: the column is cut off or "
+               "something follows it"},
+    {"BUFFER", "the buffers are too short for the pairs that the header tells of"},
+    {"DAMAGED", "the header is sound, but what follows is not the column of any list of pairs"},
+    {"ID", "the id looked up is above the greatest allowed, 2147352575"},
+    {"BROKEN", "the look-up met bytes that cannot be right: the column is damaged"},
+};
+
+static const struct refusal unknown = {"UNKNOWN", "no refusal has this number"};
+
+static const struct refusal *refusal_of(uint64_t number)
+{
+    return number < sizeof refusals / sizeof refusals[0] ? &refusals[number] : &unknown;
+}
+
+const char *signalfern_version(void)
+{
+    return SIGNALFERN_VERSION;
+}
+
+const char *signalfern_refusal_name(uint64_t refusal)
+{
+    return refusal_of(refusal)->name;
+}
+
+const char *signalfern_refusal_text(uint64_t refusal)
+{
+    return refusal_of(refusal)->text;
+}
+
+/* The header has 2v for v >= 0 and -2v-1 for v < 0; half of the latter is -v-1. */
+int64_t signalfern_smallest(uint64_t least)
+{
+    int64_t half = (int64_t)(least >> 1);
+    return least % 2 == 0 ? half : -1 - half;
+}

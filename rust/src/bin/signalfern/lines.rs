@@ -1,0 +1,120 @@
+//! A text taken line by line, in little memory.
+
+use crate::failure::Failure;
+use crate::input::Input;
+use crate::memory;
+use crate::progress::{Progress, Unit};
+
+/// The longest line, in bytes.
+pub const LONGEST: usize = 1 << 16;
+/// Bytes that are read at once: more than one line always fits.
+const BUFFER: usize = 1 << 17;
+
+/// First bytes that are kept.
+const HEAD: usize = 128;
+
+/// The lines of an input.
+pub struct Lines {
+    input: Input,
+    buffer: Vec<u8>,
+    /// The part of the buffer that is not handed out yet.
+    start: usize,
+    end: usize,
+    at_end: bool,
+    /// Bytes read so far.
+    done: u64,
+    /// The first bytes, which tell files of other kinds.
+    head: Vec<u8>,
+    progress: Progress,
+}
+
+/// A line without its end, or one that is too long.
+pub enum Line<'a> {
+    Bytes(&'a [u8]),
+    TooLong,
+}
+
+impl Lines {
+    pub fn of(mut input: Input) -> Result<Self, Failure> {
+        let total = input.left();
+        let label = format!("reading {}", input.name());
+        Ok(Self {
+            progress: Progress::new(label, Unit::Bytes, total),
+            buffer: memory::zeros(BUFFER as u64, "a buffer")?,
+            input,
+            start: 0,
+            end: 0,
+            at_end: false,
+            done: 0,
+            head: Vec::new(),
+        })
+    }
+
+    pub fn input(&self) -> &Input {
+        &self.input
+    }
+
+    /// The first bytes of the input, after the first line was asked for.
+    pub fn head(&self) -> &[u8] {
+        &self.head
+    }
+
+    /// Whether the input had no byte at all. To be asked at the end.
+    pub fn was_empty(&self) -> bool {
+        self.done == 0
+    }
+
+    /// What is at hand: whole lines, the last maybe not. `pass` tells how much of it was used.
+    pub fn at_hand(&self) -> &[u8] {
+        &self.buffer[self.start..self.end]
+    }
+
+    pub fn pass(&mut self, bytes: usize) {
+        self.start += bytes;
+    }
+
+    /// The next line.
+    pub fn next(&mut self) -> Result<Option<Line<'_>>, Failure> {
+        let mut searched = 0;
+        loop {
+            let at_hand = &self.buffer[self.start..self.end];
+            let limit = at_hand.len().min(LONGEST + 1);
+            let found = at_hand[searched.min(limit)..limit]
+                .iter()
+                .position(|&byte| byte == b'\n')
+                .map(|at| at + searched);
+            let start = self.start;
+            if let Some(len) = found {
+                self.start += len + 1;
+                return Ok(Some(Line::Bytes(&self.buffer[start..start + len])));
+            }
+            if limit > LONGEST {
+                return Ok(Some(Line::TooLong));
+            }
+            if self.at_end {
+                self.start = self.end;
+                let line = &self.buffer[start..self.end];
+                return Ok((!line.is_empty()).then_some(Line::Bytes(line)));
+            }
+            searched = limit;
+            self.more()?;
+        }
+    }
+
+    /// Reads on, behind what is at hand.
+    fn more(&mut self) -> Result<(), Failure> {
+        self.buffer.copy_within(self.start..self.end, 0);
+        self.end -= self.start;
+        self.start = 0;
+        let len = self.input.read(&mut self.buffer[self.end..])?;
+        if self.head.len() < HEAD {
+            let part = &self.buffer[self.end..self.end + len];
+            self.head.extend(part.iter().take(HEAD - self.head.len()));
+        }
+        self.end += len;
+        self.done += len as u64;
+        self.at_end = len == 0;
+        self.progress.tell(self.done);
+        Ok(())
+    }
+}

@@ -1,0 +1,94 @@
+//! Pairs printed as lines.
+
+use std::io::{self, Write};
+
+use crate::progress::Progress;
+
+/// Bytes gathered before they are handed on.
+const PIECE: usize = 1 << 16;
+/// The longest line: an id, a space, a value and a line feed.
+const LONGEST: usize = 10 + 1 + 20 + 1;
+
+/// Gathers lines and hands them on in large pieces.
+pub struct Printer<'a> {
+    out: &'a mut dyn Write,
+    buffer: Vec<u8>,
+    done: u64,
+    progress: Progress,
+}
+
+impl<'a> Printer<'a> {
+    pub fn new(out: &'a mut dyn Write, progress: Progress) -> Self {
+        Self {
+            out,
+            buffer: Vec::with_capacity(PIECE),
+            done: 0,
+            progress,
+        }
+    }
+
+    pub fn pair(&mut self, id: u32, value: i64) -> io::Result<()> {
+        if self.buffer.len() + LONGEST > PIECE {
+            self.hand_on()?;
+        }
+        put(&mut self.buffer, u64::from(id));
+        self.buffer.push(b' ');
+        if value < 0 {
+            self.buffer.push(b'-');
+        }
+        put(&mut self.buffer, value.unsigned_abs());
+        self.buffer.push(b'\n');
+        self.done += 1;
+        Ok(())
+    }
+
+    /// Hands the last lines on.
+    pub fn finish(mut self) -> io::Result<()> {
+        self.hand_on()
+    }
+
+    fn hand_on(&mut self) -> io::Result<()> {
+        self.out.write_all(&self.buffer)?;
+        self.buffer.clear();
+        self.progress.tell(self.done);
+        Ok(())
+    }
+}
+
+/// Puts a number in decimal digits.
+fn put(buffer: &mut Vec<u8>, mut number: u64) {
+    let mut digits = [0; 20];
+    let mut start = digits.len();
+    loop {
+        start -= 1;
+        digits[start] = b'0' + (number % 10) as u8;
+        number /= 10;
+        if number == 0 {
+            break;
+        }
+    }
+    buffer.extend_from_slice(&digits[start..]);
+}
+
+#[cfg(test)]
+mod tests {
+    use super::*;
+    use crate::progress::Unit;
+
+    #[test]
+    fn lines_are_those_of_std() {
+        let mut out = Vec::new();
+        let progress = Progress::new(String::new(), Unit::Pairs, None);
+        let mut printer = Printer::new(&mut out, progress);
+        let mut expected = String::new();
+        let values = [0, 9, 10, -1, 12345, i64::MAX, i64::MIN];
+        for round in 0..2000 {
+            for (id, value) in (round..).step_by(99_991).zip(values) {
+                printer.pair(id, value).unwrap();
+                expected.push_str(&format!("{id} {value}\n"));
+            }
+        }
+        printer.finish().unwrap();
+        assert_eq!(String::from_utf8(out).unwrap(), expected);
+    }
+}

@@ -1,0 +1,263 @@
+//! The commands and their options, written once: the parser, the help, the man page and the shell
+//! completions are all made from this table.
+
+use crate::arguments::Arguments;
+use crate::failure::Failure;
+use crate::{check, demo, help, look_up, read, show, write};
+
+/// One command of the tool.
+pub struct Command {
+    pub name: &'static str,
+    /// What may follow the name, for a person.
+    pub words: &'static str,
+    /// Half a line that says what it does.
+    pub summary: &'static str,
+    /// Paragraphs; those that start with a space are shown as they are.
+    pub text: &'static [&'static str],
+    pub options: &'static [Choice],
+    /// What its plain words are, for completions.
+    pub operands: Value,
+    pub run: fn(Arguments) -> Result<(), Failure>,
+}
+
+/// One option of a command.
+pub struct Choice {
+    pub short: Option<char>,
+    pub long: &'static str,
+    /// The name and the kind of its value, if it takes one.
+    pub value: Option<(&'static str, Value)>,
+    pub help: &'static str,
+}
+
+/// What may stand in a place of the command line.
+#[derive(Clone, Copy)]
+pub enum Value {
+    File,
+    Folder,
+    Other,
+    OneOf(&'static [&'static str]),
+}
+
+const fn flag(short: Option<char>, long: &'static str, help: &'static str) -> Choice {
+    Choice {
+        short,
+        long,
+        value: None,
+        help,
+    }
+}
+
+const fn option(
+    short: Option<char>,
+    long: &'static str,
+    value: (&'static str, Value),
+    help: &'static str,
+) -> Choice {
+    Choice {
+        short,
+        long,
+        value: Some(value),
+        help,
+    }
+}
+
+/// What the tool is, above the list of commands.
+pub const ABOUT: &str = "score columns, by proved calls";
+
+pub const INTRODUCTION: &str = "A column is a file that holds pairs of an id (0 to 2147352575, \
+ascending) and a signed 64-bit value.";
+
+pub const STANDARD: &str = "Where a file is to be read, - stands for standard input; after -o it \
+stands for standard output.";
+
+pub const STATUS: &str = "Exit status: 0 done; 1 the input is refused (the refusal's number, name \
+and meaning stand on standard error, and nothing is written); 2 the command line is wrong or a file \
+cannot be used. Refusals 1 to 15 are the library's, those from 101 the tool's.";
+
+/// What "sound" means, wherever the word is used.
+pub const SOUND: &str = "Sound means: the bytes are the column of one list of pairs, to the last \
+bit, as the writer would give it. It does not mean that nobody changed a score: the format has no \
+checksum, and most changes of a stored value give another sound column. To know that a file is the \
+one that was written, compare its SHA-256 digest: --digest, or a file COLUMN.sha256 beside it.";
+
+pub static COMMANDS: &[Command] = &[WRITE, CHECK, READ, LOOK_UP, SHOW, DEMO, HELP];
+
+const WRITE: Command = Command {
+    name: "write",
+    words: "[FILE] -o COLUMN [-p P] [--sidecar] [--force]",
+    summary: "make a column of lines `ID VALUE`",
+    text: &[
+        "Makes a column of the lines of FILE, or of standard input. Each line is `ID VALUE`; ids \
+         ascend from line to line. Empty lines and lines that start with # are passed over. A line \
+         has at most 65536 bytes.",
+        "A file is written beside its place and takes its name when it is whole: it is the old file \
+         or the new one, whatever happens. Pipes and devices are written to. The column's SHA-256 \
+         digest is printed.",
+    ],
+    options: &[
+        option(
+            Some('o'),
+            "output",
+            ("COLUMN", Value::File),
+            "the column's file; - is standard output, and the report then goes to standard error",
+        ),
+        option(
+            Some('p'),
+            "power",
+            (
+                "P",
+                Value::OneOf(&["0", "7", "8", "9", "10", "11", "12", "13", "14", "15"]),
+            ),
+            "rank power: 0 for no ranks, or 7 to 15 for one rank to every 2^P places of a dense \
+             block. The default is 9",
+        ),
+        flag(
+            None,
+            "sidecar",
+            "write the digest to COLUMN.sha256 too, as sha256sum does",
+        ),
+        flag(
+            Some('f'),
+            "force",
+            "replace a file that is not writable, or replace one although standard input was empty",
+        ),
+    ],
+    operands: Value::File,
+    run: write::run,
+};
+
+const CHECK: Command = Command {
+    name: "check",
+    words: "COLUMN... [--digest HEX] [-q] [--json]",
+    summary: "tell whether it is sound, and what is wrong if not",
+    text: &[
+        "Tells for each file whether it is a sound column and how many pairs it holds, with its \
+         SHA-256 digest. Of a file that is refused, alone on the command line, it tells what is \
+         wrong, where, and what to do next. The status is the worst of all files.",
+        SOUND,
+        "Where a file COLUMN.sha256 stands beside a column, its digest is compared.",
+    ],
+    options: &[
+        option(
+            Some('d'),
+            "digest",
+            ("HEX", Value::Other),
+            "the SHA-256 digest that the one file must have",
+        ),
+        flag(
+            Some('q'),
+            "quiet",
+            "print nothing about sound files; messages about others stay",
+        ),
+        flag(
+            None,
+            "json",
+            "one JSON object a line for each file, on standard output",
+        ),
+    ],
+    operands: Value::File,
+    run: check::run,
+};
+
+const READ: Command = Command {
+    name: "read",
+    words: "COLUMN [-o FILE] [--from ID] [--to ID] [--limit N]",
+    summary: "print its pairs as lines `ID VALUE`",
+    text: &[
+        "Prints the pairs of a column as lines `ID VALUE`. The whole column is checked before the \
+         first line. With --from, --to or --limit, and where the memory for all pairs cannot be had, \
+         pairs are printed as they are met, in little memory.",
+    ],
+    options: &[
+        option(
+            Some('o'),
+            "output",
+            ("FILE", Value::File),
+            "to this file, which is whole or not there",
+        ),
+        option(None, "from", ("ID", Value::Other), "begin with this id"),
+        option(None, "to", ("ID", Value::Other), "end with this id"),
+        option(None, "limit", ("N", Value::Other), "at most so many pairs"),
+        flag(Some('f'), "force", "replace a file that is not writable"),
+    ],
+    operands: Value::File,
+    run: read::run,
+};
+
+const LOOK_UP: Command = Command {
+    name: "look-up",
+    words: "COLUMN [ID...] [--ids FILE] [--unchecked]",
+    summary: "ask for single ids",
+    text: &[
+        "Asks a column for single ids. One line for each: the id, then its value, its ordinal (how \
+         many ids lie below it) and the bitmap words that were counted; or `absent`.",
+        "The column is checked first: a damaged one could give a wrong value.",
+    ],
+    options: &[
+        option(
+            Some('i'),
+            "ids",
+            ("FILE", Value::File),
+            "ask for the ids in this file too, which are set apart by spaces or line ends; - is \
+             standard input",
+        ),
+        flag(
+            None,
+            "unchecked",
+            "do not check the column first; answers may then be wrong",
+        ),
+    ],
+    operands: Value::File,
+    run: look_up::run,
+};
+
+const SHOW: Command = Command {
+    name: "show",
+    words: "COLUMN",
+    summary: "what is in it, and where the bytes go",
+    text: &[
+        "Shows the header, the blocks of ids with their kind and count (neighbours of one kind \
+         together), and where the bytes go. Of a damaged column it shows what can be made out, and \
+         says that it is damaged.",
+    ],
+    options: &[],
+    operands: Value::File,
+    run: show::run,
+};
+
+const DEMO: Command = Command {
+    name: "demo",
+    words: "[FOLDER]",
+    summary: "all of these on a small column",
+    text: &[
+        "Makes a list of pairs and a column of it in FOLDER (a new one among the temporary files if \
+         none is named), then checks, reads, asks and shows it. Each command is printed before it \
+         runs. Files that are there already are not replaced.",
+    ],
+    options: &[],
+    operands: Value::Folder,
+    run: demo::run,
+};
+
+const HELP: Command = Command {
+    name: "help",
+    words: "[COMMAND] [--man] [--completions SHELL]",
+    summary: "this text, or that of a command",
+    text: &[
+        "Prints the help of all or of one command; or the manual page; or the completions of a \
+         shell, for instance:",
+        "  signalfern help --man > signalfern.1",
+        "  source <(signalfern help --completions bash)",
+    ],
+    options: &[
+        flag(None, "man", "the manual page, as groff and man read it"),
+        option(
+            None,
+            "completions",
+            ("SHELL", Value::OneOf(&["bash", "zsh", "fish"])),
+            "completions for bash, zsh or fish",
+        ),
+    ],
+    operands: Value::OneOf(&["write", "check", "read", "look-up", "show", "demo", "help"]),
+    run: help::run,
+};

@@ -1,0 +1,145 @@
+//! write: a column made of lines.
+
+use std::path::{Path, PathBuf};
+
+use signalfern::{power_allowed, Refusal, MAX_ID};
+
+use crate::arguments::Arguments;
+use crate::failure::{complain, say, Failure};
+use crate::input::Input;
+use crate::memory;
+use crate::output::{print, Output};
+use crate::pairs::Pairs;
+use crate::sha256::{digest, Digest};
+use crate::sidecar;
+use crate::text::{counted, hex, is_standard, named};
+
+/// Lucene's choice too.
+const DEFAULT_POWER: u32 = 9;
+
+pub fn run(mut arguments: Arguments) -> Result<(), Failure> {
+    let rule = "rank power: 0, or 7 to 15";
+    let power = arguments.number("power", rule)?.unwrap_or(DEFAULT_POWER);
+    if !power_allowed(power) {
+        return Err(arguments.usage(format!("`{power}` is no {rule}")));
+    }
+    let (force, sidecar) = (arguments.has("force"), arguments.has("sidecar"));
+    let Some(path) = arguments.path("output") else {
+        return Err(arguments.usage("no output is named: -o COLUMN"));
+    };
+    if sidecar && is_standard(&path) {
+        return Err(arguments.usage("--sidecar needs an output with a name"));
+    }
+    let input = arguments.next().map_or(PathBuf::from("-"), PathBuf::from);
+    arguments.finish()?;
+
+    let input = Input::open(&input)?;
+    let output = Output::open(&path, force, &[&input])?;
+    let beside = match sidecar {
+        true => Some(Output::open(&sidecar::path_of(&path), force, &[&input])?),
+        false => None,
+    };
+    let name = input.name();
+    let pairs = pairs_for(input, &output, force, &path)?;
+    let column = column_of(&pairs, power, &name)?;
+    let count = counted(pairs.ids.len() as u64, "pair");
+    // From here on the column alone is needed.
+    drop(pairs);
+    let digest = digest(&column);
+    let to_standard = output.is_standard();
+    output.fill(|out| out.write_all(&column))?;
+    if let Some(beside) = beside {
+        sidecar::write(beside, &path, &digest)?;
+    } else {
+        warn_of_old_sidecar(&path, &digest);
+    }
+    let about = format!("{count} in {} bytes", column.len());
+    report(&path, &about, &digest, to_standard)
+}
+
+/// The pairs of the input. No file is replaced because a command before us failed.
+fn pairs_for(input: Input, output: &Output, force: bool, path: &Path) -> Result<Pairs, Failure> {
+    let from_standard = input.is_standard();
+    let pairs = Pairs::read(input)?;
+    if from_standard && pairs.was_empty && output.replaces() && !force {
+        return Err(Failure::Trouble(format!(
+            "standard input is empty, and {} is there: --force replaces it by an empty column",
+            named(path)
+        )));
+    }
+    Ok(pairs)
+}
+
+fn column_of(pairs: &Pairs, power: u32, name: &str) -> Result<Vec<u8>, Failure> {
+    let refused = |refusal| refused(pairs, name, refusal);
+    // No column is empty, so the first call asks for room.
+    let needed = match signalfern::write(&pairs.ids, &pairs.values, power, &mut []) {
+        Err(Refusal::Room { needed }) => needed,
+        Err(refusal) => return Err(refused(refusal)),
+        Ok(len) => len,
+    };
+    let mut column = memory::zeros(needed as u64, "the column")?;
+    signalfern::write(&pairs.ids, &pairs.values, power, &mut column).map_err(refused)?;
+    Ok(column)
+}
+
+/// A refusal by the library, with the line and the ids it is about.
+fn refused(pairs: &Pairs, name: &str, refusal: Refusal) -> Failure {
+    let code = (refusal.number(), refusal.name());
+    let place = |index: usize| format!("{name}: line {}", pairs.line_of(index));
+    match refusal {
+        Refusal::Order { index } if index > 0 => {
+            let (before, id) = (pairs.ids[index - 1], pairs.ids[index]);
+            let line = pairs.line_of(index - 1);
+            let hint = if id == before {
+                "an id may stand once"
+            } else {
+                "sort the lines by id: sort -n"
+            };
+            let sentence = format!("id {id} is not above id {before} of line {line}; {hint}");
+            Failure::refused_as(place(index), code, sentence)
+        }
+        Refusal::Range { index } => {
+            let id = pairs.ids[index];
+            let sentence = format!("id {id} is above the greatest allowed, {MAX_ID}");
+            Failure::refused_as(place(index), code, sentence)
+        }
+        _ => Failure::refused(name, refusal),
+    }
+}
+
+fn report(path: &Path, about: &str, digest: &Digest, to_standard: bool) -> Result<(), Failure> {
+    let name = if to_standard {
+        "standard output".to_string()
+    } else {
+        named(path)
+    };
+    let line = format!("{name}: {about}, SHA-256 {}\n", hex(digest));
+    if to_standard {
+        say(&line);
+        return Ok(());
+    }
+    match print(&line) {
+        // The column is written; who does not listen need not hear of it.
+        Err(Failure::OutputClosed) => Ok(()),
+        Err(Failure::Trouble(trouble)) => {
+            Err(Failure::Trouble(format!("{trouble}; {name} is written")))
+        }
+        result => result,
+    }
+}
+
+/// A sidecar of the file before would have the new one refused.
+fn warn_of_old_sidecar(path: &Path, digest: &Digest) {
+    if is_standard(path) {
+        return;
+    }
+    match sidecar::read(path) {
+        Ok(None) => {}
+        Ok(Some(old)) if old == *digest => {}
+        _ => complain(format!(
+            "{} is of another column: take it away, or write with --sidecar",
+            named(&sidecar::path_of(path))
+        )),
+    }
+}

@@ -1,0 +1,66 @@
+//! The Rust examples run, and print what they are there to show.
+
+mod common;
+
+use std::path::Path;
+use std::process::Command;
+
+use common::tool::Folder;
+
+/// Runs an example, which `cargo test` has built beside the tool.
+fn run(name: &str, words: &[&str]) -> String {
+    let tool = Path::new(env!("CARGO_BIN_EXE_signalfern"));
+    let example = tool.parent().unwrap().join("examples").join(name);
+    let ran = Command::new(&example)
+        .args(words)
+        .output()
+        .unwrap_or_else(|error| panic!("{}: {error}", example.display()));
+    let err = String::from_utf8_lossy(&ran.stderr);
+    assert!(ran.status.success(), "{}: {err}", ran.status);
+    String::from_utf8(ran.stdout).unwrap()
+}
+
+#[test]
+fn scores() {
+    let folder = Folder::new("example-scores");
+    // Nine header numbers of a byte each, two sparse blocks, the end block, three jump entries, and
+    // four stored numbers of 6 bits, since (150 + 20) / 5 is 34.
+    let len = 9 + (4 + 6) + (4 + 2) + 6 + 24 + 3;
+    let expected =
+        format!("4 pairs in {len} bytes\n2: 140\n3: not listed\nfrom 3 on:\n7 135\n70000 -20\n");
+    let path = folder.path("scores.column");
+    assert_eq!(run("scores", &[&path]), expected);
+    // What it left is a column, to other eyes too.
+    let seen = run("refused", &[&path]);
+    assert_eq!(seen, format!("{path}: sound, 4 pairs\n"));
+}
+
+#[test]
+fn refused() {
+    let printed = run("refused", &[]);
+    let starts = [
+        "as it was written: sound, 3 pairs",
+        "cut off: refusal 11, LENGTH: ",
+        "cut off early: refusal 7, SHORT: ",
+        "a byte changed: refusal 13, DAMAGED: ",
+        "a text: refusal 9, EDITION: ",
+    ];
+    assert_eq!(printed.lines().count(), starts.len());
+    for (line, start) in printed.lines().zip(starts) {
+        assert!(line.starts_with(start), "{line}");
+    }
+}
+
+#[test]
+fn look_up() {
+    let printed = run("look_up", &[]);
+    let lines: Vec<&str> = printed.lines().collect();
+    assert_eq!(lines[0], "0: 0, the pair with ordinal 0");
+    assert_eq!(lines[1], "600: 6000, the pair with ordinal 200");
+    assert_eq!(lines[2], "601: not listed, 1 word read");
+    assert_eq!(lines[3], "65535: 655350, the pair with ordinal 21845");
+    // The flipped bit adds one to the rank of the first stride alone.
+    assert_eq!(lines[5], "0: 30, the pair with ordinal 1");
+    assert_eq!(lines[6], lines[1]);
+    assert_eq!(lines[7], "the check: Err(Damaged)");
+}

@@ -1,0 +1,66 @@
+//! docs/FORMAT.md beside the library: the columns taken apart there, and the table of refusals.
+
+mod common;
+
+use common::same;
+use signalfern::{Checked, Refusal};
+
+const PAGE: &str = include_str!("../../docs/FORMAT.md");
+
+/// The bytes of each column that the page takes apart, and where it says that they stand.
+fn taken_apart() -> Vec<Vec<u8>> {
+    let mut columns = Vec::new();
+    for table in PAGE
+        .split("```")
+        .filter(|part| part.starts_with("\nat  bytes"))
+    {
+        let mut bytes = Vec::new();
+        for line in table.trim().lines().skip(1) {
+            let mut words = line.split_whitespace();
+            let at: usize = words.next().unwrap().parse().unwrap();
+            assert_eq!(at, bytes.len(), "{line}");
+            // Two spaces end the bytes.
+            let (hex, what) = line[4..].split_once("  ").unwrap();
+            assert!(!what.trim().is_empty(), "{line}");
+            let pairs = hex.split(' ').map(|byte| u8::from_str_radix(byte, 16));
+            bytes.extend(pairs.map(Result::unwrap));
+        }
+        columns.push(bytes);
+    }
+    columns
+}
+
+#[test]
+fn columns_taken_apart() {
+    let lists: [(&[u32], &[i64], u32); 3] = [
+        (&[0, 2, 7], &[150, 140, 135], 9),
+        (&[65_536], &[-1], 0),
+        (&[], &[], 9),
+    ];
+    let columns = taken_apart();
+    assert_eq!(columns.len(), lists.len());
+    for ((ids, values, power), column) in lists.into_iter().zip(&columns) {
+        assert_eq!(&same::write_exactly(ids, values, power), column);
+    }
+}
+
+#[test]
+fn a_changed_value_can_be_sound() {
+    assert!(PAGE.contains("byte 26 turned from `D0` to `90` (one bit)"));
+    let mut column = taken_apart().swap_remove(0);
+    assert_eq!(column[26], 0xD0);
+    column[26] = 0x90;
+    let scores = Checked::new(&column).unwrap();
+    assert!(scores.iter().eq([(0, 145), (2, 140), (7, 135)]));
+}
+
+#[test]
+fn refusals_by_number_and_name() {
+    let (_, section) = PAGE.split_once("\n## Refusals\n").unwrap();
+    let rows = section.lines().filter_map(|line| {
+        let mut cells = line.strip_prefix("| ")?.split(" | ");
+        Some((cells.next()?.parse::<u64>().ok()?, cells.next()?))
+    });
+    let known = (1..=15).map(|number| (number, Refusal::from_number(number, 0).unwrap().name()));
+    assert!(rows.eq(known));
+}

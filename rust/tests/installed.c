@@ -1,0 +1,59 @@
+/* A program against the installed library, as C and as C++: the version, every refusal's name and
+ * sentence, the smallest value, and each proved call once. Ends with the line of the first promise
+ * that is broken. */
+#include <inttypes.h>
+#include <signalfern.h>
+#include <stdio.h>
+#include <string.h>
+
+#define PROMISE(holds)                           \
+    do {                                         \
+        if (!(holds)) {                          \
+            printf("line %d: %s\n", __LINE__, #holds); \
+            return 1;                            \
+        }                                        \
+    } while (0)
+
+int main(void)
+{
+    char version[32];
+    snprintf(version, sizeof version, "%d.%d.%d", SIGNALFERN_VERSION_MAJOR, SIGNALFERN_VERSION_MINOR,
+             SIGNALFERN_VERSION_PATCH);
+    PROMISE(strcmp(version, SIGNALFERN_VERSION) == 0);
+    PROMISE(strcmp(version, signalfern_version()) == 0);
+    PROMISE(strcmp(signalfern_refusal_name(0), "NONE") == 0);
+    PROMISE(strcmp(signalfern_refusal_name(16), "UNKNOWN") == 0);
+    PROMISE(strcmp(signalfern_refusal_name(UINT64_MAX), "UNKNOWN") == 0);
+    PROMISE(strlen(signalfern_refusal_text(0)) > 0 && strlen(signalfern_refusal_text(16)) > 0);
+
+    const struct {
+        uint64_t least;
+        int64_t value;
+    } smallest[] = {{0, 0}, {1, -1}, {2, 1}, {270, 135}, {UINT64_MAX - 1, INT64_MAX}, {UINT64_MAX, INT64_MIN}};
+    for (size_t i = 0; i < sizeof smallest / sizeof smallest[0]; i++)
+        PROMISE(signalfern_smallest(smallest[i].least) == smallest[i].value);
+
+    const uint32_t ids[] = {0, 2, 7};
+    const int64_t values[] = {-150, 140, 135};
+    uint8_t column[64];
+    signalfern_reply reply = signalfern_write(ids, 3, values, 3, SIGNALFERN_USUAL_POWER, column, sizeof column);
+    PROMISE(reply.refusal == 0);
+    size_t len = reply.number;
+    reply = signalfern_check(column, len);
+    PROMISE(reply.refusal == 0 && reply.number == 3);
+    uint32_t read_ids[3];
+    int64_t read_values[3];
+    reply = signalfern_read(column, len, read_ids, 3, read_values, 3);
+    PROMISE(reply.refusal == 0 && reply.number == 3);
+    PROMISE(memcmp(ids, read_ids, sizeof ids) == 0 && memcmp(values, read_values, sizeof values) == 0);
+    signalfern_answer answer = signalfern_look_up(column, len, 2);
+    PROMISE(answer.kind == SIGNALFERN_FOUND && answer.value == 140 && answer.ordinal == 1);
+    signalfern_column opened = signalfern_open(column, len);
+    PROMISE(opened.refusal == 0 && opened.power == 9 && signalfern_smallest(opened.least) == -150);
+    PROMISE(signalfern_look_up_in(opened, column, len, 3).kind == SIGNALFERN_ABSENT);
+
+    printf("%s\n", signalfern_version());
+    for (uint64_t refusal = 1; refusal <= 15; refusal++)
+        printf("%" PRIu64 " %s %s\n", refusal, signalfern_refusal_name(refusal), signalfern_refusal_text(refusal));
+    return 0;
+}

@@ -1,0 +1,103 @@
+//! look-up: never a wrong score from a file that the check refuses.
+
+mod common;
+
+use common::tool::{run, run_with, Folder};
+
+/// Each bit of the id section flipped in turn: where the check refuses, so does the look-up.
+#[test]
+fn a_damaged_column_gives_no_score() {
+    let folder = Folder::new("damaged_scores");
+    let ids: Vec<u32> = (0..6).map(|id| 3 * id).chain([70_000, 70_004]).collect();
+    let values: Vec<i64> = (0..8).map(|value| 100 + 7 * value).collect();
+    let column = signalfern::write_to_vec(&ids, &values, 9).unwrap();
+    let (mut refused, mut wrong) = (0, 0);
+    for bit in 0..8 * column.len() {
+        let mut bytes = column.clone();
+        bytes[bit / 8] ^= 1 << (bit % 8);
+        let Err(refusal) = signalfern::check(&bytes) else {
+            continue;
+        };
+        refused += 1;
+        let answers = ids.iter().map(|&id| signalfern::look_up(&bytes, id));
+        let is_wrong = answers.zip(&values).any(|(answer, value)| {
+            answer.is_ok_and(|answer| answer.value().is_some_and(|it| it != *value))
+        });
+        if !is_wrong {
+            continue;
+        }
+        // Here the steps of the look-up alone would give a wrong score.
+        wrong += 1;
+        let file = folder.put("file", &bytes);
+        let refusal = format!("refusal {}, {}", refusal.number(), refusal.name());
+        for id in &ids {
+            run(&["look-up", &file, &id.to_string()]).expect(1, &[&refusal, "signalfern check"]);
+        }
+    }
+    assert!(
+        refused > 100 && wrong > 5,
+        "{refused} refused, {wrong} wrong"
+    );
+}
+
+#[test]
+fn unchecked_says_so() {
+    let folder = Folder::new("unchecked");
+    let mut bytes = signalfern::write_to_vec(&[0, 2, 7], &[150, 140, 135], 9).unwrap();
+    let sound = folder.put("sound", &bytes);
+    bytes[26] |= 1;
+    let damaged = folder.put("damaged", &bytes);
+    for file in [&sound, &damaged] {
+        let ran = run(&["look-up", "--unchecked", file, "7"]);
+        assert_eq!(
+            (ran.status, ran.out.as_str()),
+            (0, "7 135 ordinal 2 words 0\n")
+        );
+        assert!(ran
+            .err
+            .contains("is not checked: if it is damaged, answers may be wrong"));
+    }
+    let short = folder.put("short", &bytes[..20]);
+    run(&["look-up", "--unchecked", &short, "7"]).expect(1, &["refusal 11, LENGTH"]);
+    bytes[12] = 3; // Four places where there is room for three.
+    let broken = folder.put("broken", &bytes);
+    let ran = run(&["look-up", "--unchecked", &broken, "2"]);
+    ran.expect(1, &["id 2: refusal 15, BROKEN"]);
+}
+
+#[test]
+fn ids_from_a_file_or_standard_input() {
+    let folder = Folder::new("ids");
+    let column = folder.column("column", &[0, 2, 7], &[150, 140, 135]);
+    let list = folder.put("ids", "7 2\n\n  # none\n5\t0 # these\n");
+    let answers = "2 140 ordinal 1 words 0\n7 135 ordinal 2 words 0\n2 140 ordinal 1 words 0\n\
+                   5 absent words 0\n0 150 ordinal 0 words 0\n";
+    let ran = run(&["look-up", &column, "2", "--ids", &list]).expect(0, &[]);
+    assert_eq!(ran.out, answers);
+    let ran = run_with(&["look-up", &column, "2", "-i-"], &folder.bytes("ids")).expect(0, &[]);
+    assert_eq!(ran.out, answers);
+    let bytes = folder.bytes("column");
+    let ran = run_with(&["look-up", "-", "--ids", &list], &bytes).expect(0, &[]);
+    assert!(answers.ends_with(&ran.out));
+    // What is no id is told with its line, and the others are answered.
+    let list = folder.put("ids", "7\nx1\n4294967296\n2\n");
+    let ran = run(&["look-up", &column, "--ids", &list]);
+    assert_eq!(ran.status, 1);
+    assert_eq!(
+        ran.out,
+        "7 135 ordinal 2 words 0\n2 140 ordinal 1 words 0\n"
+    );
+    assert!(
+        ran.err
+            .contains("ids: line 2: refusal 101, TEXT: `x1` is no id"),
+        "{}",
+        ran.err
+    );
+    assert!(
+        ran.err
+            .contains("ids: line 3: id 4294967296: refusal 14, ID"),
+        "{}",
+        ran.err
+    );
+    run(&["look-up", &column, "--ids", "none"]).expect(2, &["cannot read none"]);
+}
