@@ -104,7 +104,10 @@ fn cut_or_lengthened() {
     for len in (0..40).chain((40..column.len()).step_by(97)) {
         tally.try_all(&column[..len], &asked);
         let short = same::check(&column[..len]).unwrap_err();
-        assert!(matches!(short, Refusal::Short { .. } | Refusal::Length), "{len}");
+        assert!(
+            matches!(short, Refusal::Short { .. } | Refusal::Length),
+            "{len}"
+        );
     }
     column.push(0);
     assert_eq!(same::check(&column), Err(Refusal::Length));

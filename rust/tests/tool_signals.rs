@@ -9,8 +9,16 @@ use std::process::{Child, Command, Stdio};
 use std::thread;
 use std::time::{Duration, Instant};
 
-use common::tool::{tool, Folder, Ran};
+use common::tool::{tool_path, Folder, Ran};
 use common::Random;
+
+/// The tool with its signals as a terminal gives them: a command that a shell runs in the background
+/// has INT ignored, and so have the tests run by it.
+fn tool() -> Command {
+    let mut command = Command::new("env");
+    command.args(["--default-signal=HUP,INT,TERM", &tool_path()]);
+    command
+}
 
 fn signal(child: &Child, name: &str) {
     let script = format!("kill -{name} {}", child.id());
