@@ -55,8 +55,8 @@ const char *signalfern_refusal_text(uint64_t refusal)
 }
 
 /* The header has 2v for v >= 0 and -2v-1 for v < 0; half of the latter is -v-1. */
-int64_t signalfern_smallest(uint64_t least)
+int64_t signalfern_smallest(uint64_t smallest)
 {
-    int64_t half = (int64_t)(least >> 1);
-    return least % 2 == 0 ? half : -1 - half;
+    int64_t half = (int64_t)(smallest >> 1);
+    return smallest % 2 == 0 ? half : -1 - half;
 }

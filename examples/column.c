@@ -67,7 +67,7 @@ int main(void)
     signalfern_column opened = signalfern_open(column, len);
     if (opened.refusal != 0)
         refuse("open", opened.refusal, opened.number);
-    printf("smallest value %" PRId64 "\n", signalfern_smallest(opened.least));
+    printf("smallest value %" PRId64 "\n", signalfern_smallest(opened.smallest));
     tell(2, signalfern_look_up_in(opened, column, len, 2));
     tell(5, signalfern_look_up_in(opened, column, len, 5));
 

@@ -98,14 +98,15 @@ typedef struct {
 typedef struct {
     uint64_t refusal;     /* 0: opened. Otherwise the refusal: 7 to 11. */
     uint64_t number;      /* Opened: 0. Otherwise the number with the refusal. */
+    uint64_t edition;     /* the edition: 1 */
     uint64_t count;       /* n, the count of pairs */
     uint64_t power;       /* p, the rank power: 0 or 7 to 15 */
     uint64_t id_bytes;    /* L, the bytes of the id section */
     uint64_t jump_count;  /* J, the count of jump entries */
-    uint64_t bits;        /* w, the bits of a stored number: 0 to 64 */
-    uint64_t least;       /* the smallest value v as the header has it: 2v, or -2v-1 if v < 0;
+    uint64_t width;       /* w, the bits of a stored number: 0 to 64 */
+    uint64_t smallest;    /* the smallest value v as the header has it: 2v, or -2v-1 if v < 0;
                              signalfern_smallest gives v */
-    uint64_t step;        /* g, the divisor: at least 1 */
+    uint64_t divisor;     /* g, the divisor: at least 1 */
     uint64_t value_bytes; /* V, the bytes of the value section */
     uint64_t start;       /* the bytes of the header: where the id section starts */
 } signalfern_column;
@@ -164,9 +165,10 @@ signalfern_column signalfern_open(const uint8_t *bytes, size_t len);
  * Looks one id up in a column opened before. With the column of signalfern_open(bytes, len), not
  * refused, and the same bytes, the answer is that of signalfern_look_up(bytes, len, id).
  *
- * Any other column is allowed too: its numbers from count to start are taken for the header's.
- * Refused: 14; 10 where these numbers break a header rule (as those of a refused opening do); 11
- * where start + id_bytes + value_bytes is not len; 15. Its fields refusal and number do not matter.
+ * Any other column is allowed too: its numbers from edition to start are taken for the header's.
+ * Refused: 14; 10 where there is no such edition or these numbers break a header rule (as those of
+ * a refused opening do); 11 where start + id_bytes + value_bytes is not len; 15. Its fields refusal
+ * and number do not matter.
  */
 signalfern_answer signalfern_look_up_in(signalfern_column column,
                                         const uint8_t *bytes, size_t len, uint32_t id);
@@ -187,8 +189,8 @@ const char *signalfern_refusal_name(uint64_t refusal);
 /* A sentence that says what is wrong, without its full stop. */
 const char *signalfern_refusal_text(uint64_t refusal);
 
-/* The smallest value of a column, from its header number `least`. */
-int64_t signalfern_smallest(uint64_t least);
+/* The smallest value of a column, from its header number `smallest`. */
+int64_t signalfern_smallest(uint64_t smallest);
 
 #ifdef __cplusplus
 }

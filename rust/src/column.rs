@@ -87,6 +87,12 @@ impl<'a> Column<'a> {
         self.numbers.count == 0
     }
 
+    /// The edition: 1.
+    #[must_use]
+    pub const fn edition(&self) -> u64 {
+        self.numbers.edition
+    }
+
     /// n, the count of pairs; [`len`](Self::len) as the header has it.
     #[must_use]
     pub const fn count(&self) -> u64 {
@@ -114,7 +120,7 @@ impl<'a> Column<'a> {
     /// w, the bits of a stored number: 0 to 64.
     #[must_use]
     pub const fn width(&self) -> u64 {
-        self.numbers.bits
+        self.numbers.width
     }
 
     /// The smallest value.
@@ -126,13 +132,13 @@ impl<'a> Column<'a> {
     /// ```
     #[must_use]
     pub const fn smallest(&self) -> i64 {
-        decoded(self.numbers.least)
+        decoded(self.numbers.smallest)
     }
 
     /// g, the divisor of the values: at least 1.
     #[must_use]
     pub const fn divisor(&self) -> u64 {
-        self.numbers.step
+        self.numbers.divisor
     }
 
     /// V, the bytes of the value section.
@@ -179,6 +185,8 @@ impl fmt::Debug for Column<'_> {
 #[non_exhaustive]
 #[must_use]
 pub struct Header {
+    /// The edition: 1.
+    pub edition: u64,
     /// n, the count of pairs.
     pub count: u64,
     /// p, the rank power: 0 for no ranks, or 7 to 15.
@@ -206,7 +214,8 @@ impl Header {
     ///
     /// # Errors
     ///
-    /// [`Refusal::Id`]; [`Refusal::Header`] where the numbers break a header rule;
+    /// [`Refusal::Id`]; [`Refusal::Header`] where there is no such edition or the numbers break a
+    /// header rule;
     /// [`Refusal::Length`] where `start`, `id_bytes` and `value_bytes` together are not the byte
     /// count; [`Refusal::Broken`].
     #[inline]
@@ -216,13 +225,14 @@ impl Header {
 
     const fn of(numbers: &ffi::Column) -> Self {
         Self {
+            edition: numbers.edition,
             count: numbers.count,
             power: numbers.power,
             id_bytes: numbers.id_bytes,
             jump_count: numbers.jump_count,
-            width: numbers.bits,
-            smallest: decoded(numbers.least),
-            divisor: numbers.step,
+            width: numbers.width,
+            smallest: decoded(numbers.smallest),
+            divisor: numbers.divisor,
             value_bytes: numbers.value_bytes,
             start: numbers.start,
         }
@@ -232,13 +242,14 @@ impl Header {
         ffi::Column {
             refusal: 0,
             number: 0,
+            edition: self.edition,
             count: self.count,
             power: self.power,
             id_bytes: self.id_bytes,
             jump_count: self.jump_count,
-            bits: self.width,
-            least: encoded(self.smallest),
-            step: self.divisor,
+            width: self.width,
+            smallest: encoded(self.smallest),
+            divisor: self.divisor,
             value_bytes: self.value_bytes,
             start: self.start,
         }

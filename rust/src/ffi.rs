@@ -27,13 +27,14 @@ pub(crate) struct Answer {
 pub(crate) struct Column {
     pub refusal: u64,
     pub number: u64,
+    pub edition: u64,
     pub count: u64,
     pub power: u64,
     pub id_bytes: u64,
     pub jump_count: u64,
-    pub bits: u64,
-    pub least: u64,
-    pub step: u64,
+    pub width: u64,
+    pub smallest: u64,
+    pub divisor: u64,
     pub value_bytes: u64,
     pub start: u64,
 }

@@ -133,7 +133,7 @@ fn headers_that_nobody_read() {
             let mut made = sound;
             let wild = random.next() >> random.below(64);
             let len = bytes.len() as u64;
-            match random.below(12) {
+            match random.below(13) {
                 0 => made.count = wild,
                 1 => made.power = random.pick(&[0, 6, 7, 8, 12, 15, 16, wild]),
                 2 => made.id_bytes = random.pick(&[5, 6, 13, 14, len, wild]),
@@ -153,6 +153,7 @@ fn headers_that_nobody_read() {
                     made.count = random.below(9) as u64;
                     made.width = random.below(9) as u64;
                 }
+                11 => made.edition = random.pick(&[0, 2, wild]),
                 _ => made = signalfern::Header::default(),
             }
             if random.one_in(2) && made.count <= 1 << 32 && made.width <= 64 {

@@ -22,7 +22,7 @@ int main(void)
 {
     PROMISE(sizeof(signalfern_reply) == 16);
     PROMISE(sizeof(signalfern_answer) == 40);
-    PROMISE(sizeof(signalfern_column) == 88);
+    PROMISE(sizeof(signalfern_column) == 96);
 
     /* Empty arrays may be NULL. */
     signalfern_reply reply = signalfern_write(NULL, 0, NULL, 0, 9, NULL, 0);
@@ -58,9 +58,10 @@ int main(void)
     PROMISE(reply.refusal == 0);
     size_t len = reply.number;
     signalfern_column column = signalfern_open(out, len);
-    PROMISE(column.refusal == 0 && column.number == 0 && column.count == 1 && column.power == 0);
-    PROMISE(column.id_bytes == 12 && column.jump_count == 0 && column.bits == 0 && column.least == 1);
-    PROMISE(column.step == 1 && column.value_bytes == 0 && column.start == 9);
+    PROMISE(column.refusal == 0 && column.number == 0);
+    PROMISE(column.edition == 1 && column.count == 1 && column.power == 0);
+    PROMISE(column.id_bytes == 12 && column.jump_count == 0 && column.width == 0 && column.smallest == 1);
+    PROMISE(column.divisor == 1 && column.value_bytes == 0 && column.start == 9);
     PROMISE(same_answer(signalfern_look_up(out, len, 4), SIGNALFERN_FOUND, 0, -1, 0));
     PROMISE(same_answer(signalfern_look_up_in(column, out, len, 4), SIGNALFERN_FOUND, 0, -1, 0));
     PROMISE(same_answer(signalfern_look_up_in(column, out, len, 5), SIGNALFERN_ABSENT, 0, 0, 0));
@@ -85,6 +86,14 @@ int main(void)
     PROMISE(same_answer(signalfern_look_up_in(column, out, len, SIGNALFERN_MAX_ID + 1), SIGNALFERN_ID, 0, 0, 0));
     column.power = 7;
     PROMISE(same_answer(signalfern_look_up_in(column, out, len, 4), SIGNALFERN_FOUND, 0, -1, 0));
+    /* An edition that is none: a header rule, after the id and before the length. */
+    const uint64_t none[] = {0, 2, 257, UINT64_MAX};
+    for (size_t i = 0; i < sizeof none / sizeof none[0]; i++) {
+        column.edition = none[i];
+        PROMISE(same_answer(signalfern_look_up_in(column, out, len, 4), SIGNALFERN_HEADER, 0, 0, 0));
+        PROMISE(same_answer(signalfern_look_up_in(column, out, len - 1, 4), SIGNALFERN_HEADER, 0, 0, 0));
+        PROMISE(same_answer(signalfern_look_up_in(column, out, len, SIGNALFERN_MAX_ID + 1), SIGNALFERN_ID, 0, 0, 0));
+    }
 
     /* A refused opening holds 0 in all fields of the column, and a look-up in it is refused. */
     column = signalfern_open(out, len - 1);

@@ -49,7 +49,7 @@ int main(void)
     signalfern_answer answer = signalfern_look_up(column, len, 2);
     PROMISE(answer.kind == SIGNALFERN_FOUND && answer.value == 140 && answer.ordinal == 1);
     signalfern_column opened = signalfern_open(column, len);
-    PROMISE(opened.refusal == 0 && opened.power == 9 && signalfern_smallest(opened.least) == -150);
+    PROMISE(opened.refusal == 0 && opened.power == 9 && signalfern_smallest(opened.smallest) == -150);
     PROMISE(signalfern_look_up_in(opened, column, len, 3).kind == SIGNALFERN_ABSENT);
 
     printf("%s\n", signalfern_version());

@@ -30,9 +30,8 @@ pub short-more : (xs out : List ℕ) (i j m : ℕ) → m < length xs → i + 2 �
     → sets out i (bytesOf (low 2) (placesFrom xs m)) ≡ sets (sets out i (low 2 (getD xs m 0 % 65536))) j (bytesOf (low 2) (placesFrom xs (m + 1)))
 unfolding bytesOf
 short-more xs out i j m h e =
-    ap (λ (l : List ℕ). sets out i (bytesOf (low 2) l)) (places-cons xs m h)
-    ∙ sets-then out i j (low 2 (getD xs m 0 % 65536)) (bytesOf (low 2) (placesFrom xs (m + 1)))
-    (ap (λ (n : ℕ). i + n) (length-digits 256 2 (getD xs m 0 % 65536)) ∙ e)
+    let seam : i + length (low 2 (getD xs m 0 % 65536)) ≡ j = ap (λ (n : ℕ). i + n) (length-digits 256 2 (getD xs m 0 % 65536)) ∙ e in
+    rw (places-cons xs m h) (sets-then out i j (low 2 (getD xs m 0 % 65536)) (bytesOf (low 2) (placesFrom xs (m + 1))) seam)
 
 pub short-end : (xs out : List ℕ) (i m : ℕ) → length xs ≤ m → sets out i (bytesOf (low 2) (placesFrom xs m)) ≡ out
 unfolding bytesOf
@@ -51,8 +50,7 @@ pub block-is : (xs out : List ℕ) (p at : ℕ)
     ≡ sets out at (blockOf p (runOf xs))
 unfolding blockOf digits
 block-is xs out p at =
-    sym
-    (sets-then out at (at + 4) (low 2 (runOf xs .block) ++ low 2 (length (runOf xs .places) - 1)) (blockData p (runOf xs .places)) refl)
+    sym (sets-then out at (at + 4) (low 2 (runOf xs .block) ++ low 2 (length (runOf xs .places) - 1)) (blockData p (runOf xs .places)) refl)
 
 -- ---- by the kind itself
 

@@ -40,9 +40,7 @@ gone-more {xs} {m} {k} {n} {m1} {a} {m2} f g =
     let q : 64 * n + 64 * a ≡ 64 * (n + a) = omega arith in
     record {
       from = subst (From xs m2) e (g .from);
-      rest =
-          ap (bitsFrom xs m2) (sym e) ∙ g .rest ∙ ap (λ (v : ℕ). v / 2 ^ (64 * a)) (f .rest)
-          ∙ div-pow (bitsFrom xs m k) (64 * n) (64 * a) (64 * (n + a)) q;
+      rest = cc (g .rest, f .rest, div-pow (bitsFrom xs m k) (64 * n) (64 * a) (64 * (n + a)) q);
     }
 
 -- ---- the loop over words: t of n are laid
@@ -87,18 +85,12 @@ module _ {xs : List ℕ} {from k n : ℕ} {out₀ : List ℕ} {at : ℕ} where
           record {
             t-le = omega arith;
             gone = gone-more (g .gone) f;
-            counted =
-                ap₂ _+_ (g .counted) (eone ∙ ap ones wv) ∙ sym (ones-join v (64 * t) 64 (64 * (t + 1)) q);
+            counted = ap₂ _+_ (g .counted) (eone ∙ ap ones wv) ∙ sym (ones-join v (64 * t) 64 (64 * (t + 1)) q);
             small = omega (arith, g .small);
             len = len2 ∙ g .len;
             laid =
                 let e : at + 8 * t + 8 * 1 ≡ at + 8 * (t + 1) = omega arith in
                 let s : 8 * (n - t) ≡ 8 * 1 + 8 * (n - (t + 1)) = omega arith in
                 let low8 : low 8 w ≡ low 8 (v / 2 ^ (64 * t)) = ap (low 8) wv ∙ digits-mod 256 8 (v / 2 ^ (64 * t)) (lit< tt) in
-                sym
-                (sym (g .laid)
-                ∙ ap (λ (c : ℕ). sets out (at + 8 * t) (low c (v / 2 ^ (64 * t)))) s
-                ∙ lay out (at + 8 * t) (at + 8 * (t + 1)) 1 (8 * (n - (t + 1))) (v / 2 ^ (64 * t)) e
-                ∙ ap (λ (l : List ℕ). sets (sets out (at + 8 * t) l) (at + 8 * (t + 1)) (low (8 * (n - (t + 1))) (v / 2 ^ (64 * t) / 2 ^ 64))) (sym low8)
-                ∙ ap₂ (λ (l : List ℕ) (x : ℕ). sets l (at + 8 * (t + 1)) (low (8 * (n - (t + 1))) x)) (sym eo) (div-pow v (64 * t) 64 (64 * (t + 1)) q));
+                cc (g .laid, lay out (at + 8 * t) (at + 8 * (t + 1)) 1 (8 * (n - (t + 1))) (v / 2 ^ (64 * t)) e, div-pow v (64 * t) 64 (64 * (t + 1)) q);
           }

@@ -119,11 +119,8 @@ module _ {xs : List ℕ} {p stride strides : ℕ} {out₀ : List ℕ} {at base :
 
     rank-is : sum ≡ countBelow (t * 2 ^ p) (placesFrom xs 0)
     rank-is =
-        let e : 64 * k ≡ t * 2 ^ p =
-        ap (λ (n : ℕ). 64 * n) (g .is) ∙ sym (mul-assoc 64 t stride) ∙ ap (λ (n : ℕ). n * stride) (mul-comm 64 t) ∙ mul-assoc t 64 stride
-        ∙ ap (λ (n : ℕ). t * n) (g .st .places) in
-        g .counted ∙ ap (λ (v : ℕ). ones (v % 2 ^ (64 * k))) (sym (bitmap-is (placesFrom xs 0))) ∙ ones-below (64 * k) (placesFrom xs 0) (g .up)
-        ∙ ap (λ (n : ℕ). countBelow n (placesFrom xs 0)) e
+        let e : 64 * k ≡ t * 2 ^ p = cc (g .is, mul-assoc 64 t stride, mul-comm 64 t, mul-assoc t 64 stride, g .st .places) in
+        cc (g .counted, bitmap-is (placesFrom xs 0), ones-below (64 * k) (placesFrom xs 0) (g .up), e)
 
     both-laid : strides ≤ t → out ≡ sets (sets out₀ at (ranksFrom p (placesFrom xs 0) strides 0)) base (low 8192 (bitsFrom xs 0 0))
     both-laid h =
@@ -131,21 +128,15 @@ module _ {xs : List ℕ} {p stride strides : ℕ} {out₀ : List ℕ} {at base :
         let q : k ≡ 1024 = g .is ∙ ap (λ (n : ℕ). n * stride) e ∙ g .st .product in
         let z : 8 * (1024 - k) ≡ 0 = omega arith in
         let y : strides - t ≡ 0 = omega arith in
-        sym
-        (ap₂ (λ (r w : List ℕ). sets (sets out (at + 2 * t) r) (base + 8 * k) w)
-        (ap (λ (n : ℕ). ranksFrom p (placesFrom xs 0) n t) y ∙ ranks-none p (placesFrom xs 0) t)
-        (ap (λ (n : ℕ). low n (bitsFrom xs 0 0 / 2 ^ (64 * k))) z ∙ low-none (bitsFrom xs 0 0 / 2 ^ (64 * k))))
-        ∙ g .laid
+        cc (g .laid, ranks-none p (placesFrom xs 0) t, low-none (bitsFrom xs 0 0 / 2 ^ (64 * k)))
 
     -- the rank table, and then the words
     pub end : strides ≤ t → out ≡ sets out₀ at (bitsOf p (placesFrom xs 0))
     end h =
         let rs : List ℕ = placesFrom xs 0 in
-        both-laid h
-        ∙ sym (sets-then out₀ at base (ranksFrom p rs strides 0) (low 8192 (bitsFrom xs 0 0))
-        (ap (λ (x : ℕ). at + x) (length-ranks p rs strides 0) ∙ sym (g .seam)))
-        ∙ ap₂ (λ (x : List ℕ) (y : ℕ). sets out₀ at (x ++ low 8192 y))
-        (ap (λ (n : ℕ). ranksFrom p rs n 0) (g .st .count) ∙ sym (table-is p rs (g .st .ranked))) (sym (bitmap-is rs))
+        let seam : at + length (ranksFrom p rs strides 0) ≡ base = ap (λ (x : ℕ). at + x) (length-ranks p rs strides 0) ∙ sym (g .seam) in
+        let both = sets-then out₀ at base (ranksFrom p rs strides 0) (low 8192 (bitsFrom xs 0 0)) seam in
+        cc (both-laid h, both, g .st .count, table-is p rs (g .st .ranked), bitmap-is rs)
 
     -- a rank and a stride's words are laid, and `one` are their ones
     module _ {next one : ℕ} {out1 out2 : List ℕ} (h : t < strides) (e1 : out1 ≡ sets out (at + 2 * t) (high 2 sum)) (l1 : length out1 ≡ length out)
@@ -165,9 +156,7 @@ module _ {xs : List ℕ} {p stride strides : ℕ} {out₀ : List ℕ} {at base :
             is = rw (add-one t, suc-mul) (ap (λ (n : ℕ). n + stride) (g .is));
             from = f .from;
             rest = f .rest ∙ ap (λ (x : ℕ). x / 2 ^ (64 * stride)) (g .rest) ∙ div-pow v (64 * k) (64 * stride) (64 * (k + stride)) q;
-            counted =
-                ap₂ _+_ (g .counted) (eone ∙ ap (λ (x : ℕ). ones (x % 2 ^ (64 * stride))) (g .rest))
-                ∙ sym (ones-join v (64 * k) (64 * stride) (64 * (k + stride)) q);
+            counted = cc (g .counted, g .rest, eone, ones-join v (64 * k) (64 * stride) (64 * (k + stride)) q);
             small = omega (arith, g .small);
             k-le = r;
             len = l2 ∙ l1 ∙ g .len;
@@ -184,17 +173,15 @@ module _ {xs : List ℕ} {p stride strides : ℕ} {out₀ : List ℕ} {at base :
                 let p2 : at + 2 * t + 2 ≡ at + 2 * (t + 1) = omega arith in
                 let p8 : base + 8 * k + 8 * stride ≡ base + 8 * (k + stride) = omega arith in
                 let away : at + 2 * (t + 1) + length later ≤ base + 8 * k = omega (arith, g .seam, length-ranks p rs n (t + 1)) in
-                sym
-                (sym (g .laid)
-                ∙ ap₂ (λ (x : List ℕ) (y : ℕ). sets x (base + 8 * k) (low y w))
-                (ap (sets out (at + 2 * t)) here
-                ∙ sets-then out (at + 2 * t) (at + 2 * (t + 1)) (high 2 sum) later (ap (λ (x : ℕ). at + 2 * t + x) (length-high 2 sum) ∙ p2)
-                ∙ ap (λ (x : List ℕ). sets x (at + 2 * (t + 1)) later) (sym e1)) s
-                ∙ lay (sets out1 (at + 2 * (t + 1)) later) (base + 8 * k) (base + 8 * (k + stride)) stride c w p8
-                ∙ ap₂ (λ (x : List ℕ) (y : ℕ). sets x (base + 8 * (k + stride)) (low c y))
-                (sets-comm out1 (at + 2 * (t + 1)) later (base + 8 * k) (low (8 * stride) w) away
-                ∙ ap (λ (x : List ℕ). sets x (at + 2 * (t + 1)) later) (ap (λ (x : ℕ). sets out1 (base + 8 * k) (low (8 * stride) x)) (sym (g .rest)) ∙ sym e2))
-                (div-pow v (64 * k) (64 * stride) (64 * (k + stride)) q));
+                let seam : at + 2 * t + length (high 2 sum) ≡ at + 2 * (t + 1) = ap (λ (x : ℕ). at + 2 * t + x) (length-high 2 sum) ∙ p2 in
+                cc (
+                  g .laid,
+                  g .rest,
+                  sets-then out (at + 2 * t) (at + 2 * (t + 1)) (high 2 sum) later seam,
+                  lay (sets out1 (at + 2 * (t + 1)) later) (base + 8 * k) (base + 8 * (k + stride)) stride c w p8,
+                  sets-comm out1 (at + 2 * (t + 1)) later (base + 8 * k) (low (8 * stride) w) away,
+                  div-pow v (64 * k) (64 * stride) (64 * (k + stride)) q,
+                );
           }
 
 -- without ranks

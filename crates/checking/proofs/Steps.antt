@@ -6,14 +6,17 @@ use Prim.Native.Nat.{ℕ, _+_, _-_}
 use native.Mathlib.Omega.{arith}
 use lib.ListN.{length, take, drop, length-drop}
 use lib.Seq.{take-all}
-use Rattle.format.specs.Refusals.{Outcome, done, refused, andThen, need, DAMAGED}
+use Rattle.format.specs.Refusals.{Outcome, done, refused, andThen, DAMAGED}
+use Rattle.format.specs.Pairs.{Pairs}
+use Rattle.format.specs.Editions.{editions}
 use Rattle.format.specs.Column.{Head}
 use Rattle.format.specs.Opening.{Opened, openColumn, idPart, valuePart}
-use Rattle.format.specs.Check.{pairsIn, isColumn, accepted, check}
+use Rattle.format.specs.Check.{accepted, check}
 use Rattle.judge.specs.Judge.{judge}
 use Rattle.format.proofs.Open.{sound}
-use Rattle.value_check.specs.ValuesOk.{valuesOk}
-use Rattle.checking.specs.Tests.{holds, idsOk, columnOk}
+use Rattle.format.proofs.Unique.{OnlyBy, accepted-only}
+use Rattle.values.specs.Edition.{tests}
+use Rattle.checking.specs.Tests.{holds, idsOk, columnOk, isTaken}
 
 pub ids-judged : (h : Head) (s : List ℕ) (p j : ℕ) → p ≡ h .power → j ≡ h .jumpCount → (o : Outcome ℕ) → judge p j s ≡ o → idsOk h s ≡ holds (h .count) o
 unfolding idsOk
@@ -32,34 +35,44 @@ module _ (bytes : List ℕ) (c : Opened) (a b : ℕ) (ea : a ≡ c .start) (eb :
       take-all (length bytes - (a + b)) (drop (a + b) bytes) (omega (arith, length-drop (a + b) bytes))
       ∙ ap₂ (λ (x y : ℕ). drop (x + y) bytes) ea eb
 
-  pub values-long : openColumn bytes ≡ done c → length (take (length bytes - (a + b)) (drop (a + b) bytes)) ≡ c .head .valueBytes
+  pub values-long : openColumn editions bytes ≡ done c → length (take (length bytes - (a + b)) (drop (a + b) bytes)) ≡ c .head .valueBytes
   unfolding valuePart
-  values-long e = ap length values-part ∙ omega (arith, length-drop (c .start + c .head .idBytes) bytes, sound bytes c e .whole)
+  values-long e = ap length values-part ∙ omega (arith, length-drop (c .start + c .head .idBytes) bytes, sound editions bytes c e .whole)
 
-  with-parts : {t v : Bool} → t ≡ idsOk (c .head) (take (a + b - a) (drop a bytes))
-      → v ≡ valuesOk (c .head) (take (length bytes - (a + b)) (drop (a + b) bytes))
+  abbrev test : List ℕ → Bool
+  test = tests (c .head .edition) (c .head .count) (c .head .fields)
+
+  with-parts : {t v : Bool} → t ≡ idsOk (c .head) (take (a + b - a) (drop a bytes)) → v ≡ test (take (length bytes - (a + b)) (drop (a + b) bytes))
       → t && v ≡ columnOk bytes c
   unfolding columnOk
-  with-parts e f = ap₂ (λ (x y : Bool). x && y) (e ∙ ap (idsOk (c .head)) ids-part) (f ∙ ap (valuesOk (c .head)) values-part)
+  with-parts e f = ap₂ (λ (x y : Bool). x && y) (e ∙ ap (idsOk (c .head)) ids-part) (f ∙ ap test values-part)
 
   pub ids-fail : {t : Bool} → t ≡ idsOk (c .head) (take (a + b - a) (drop a bytes)) → t ≡ false → false ≡ columnOk bytes c
   ids-fail e f = with-parts (sym f ∙ e) refl
 
   pub ids-pass : {t v : Bool} → t ≡ idsOk (c .head) (take (a + b - a) (drop a bytes)) → t ≡ true
-      → v ≡ valuesOk (c .head) (take (length bytes - (a + b)) (drop (a + b) bytes)) → v ≡ columnOk bytes c
+      → v ≡ test (take (length bytes - (a + b)) (drop (a + b) bytes)) → v ≡ columnOk bytes c
   ids-pass e f g = with-parts (sym f ∙ e) g
 
 -- ---- the check
 
-pub check-refused : (bytes : List ℕ) (why w : ℕ) → openColumn bytes ≡ refused why w → refused why w ≡ check bytes
+pub check-refused : (bytes : List ℕ) (why w : ℕ) → openColumn editions bytes ≡ refused why w → refused why w ≡ check editions bytes
 unfolding check andThen
 check-refused bytes why w e = rw e
 
-module _ (bytes : List ℕ) (c : Opened) (e : openColumn bytes ≡ done c) where
-  pub check-damaged : isColumn bytes (c .head .power) (pairsIn bytes c) ≡ false → refused DAMAGED 0 ≡ check bytes
-  unfolding check andThen accepted need
-  check-damaged f = rw (e, f)
+module _ (bytes : List ℕ) (c : Opened) (e : openColumn editions bytes ≡ done c) where
+  pub check-damaged : isTaken (accepted bytes c) ≡ false → refused DAMAGED 0 ≡ check editions bytes
+  unfolding check andThen isTaken
+  check-damaged f = rw e (go (accepted bytes c) (accepted-only bytes c) f)
+    where
+      go : (o : Outcome Pairs) → OnlyBy DAMAGED o → isTaken o ≡ false → refused DAMAGED 0 ≡ andThen o (λ q. done (c .head .count))
+      go (done q) d f = absurd (let z : _≡_ {A = ℕ} 0 1 = cc in omega arith)
+      go (refused x y) d f = ap₂ {C = Outcome ℕ} (λ (x y : ℕ). refused x y) (sym (d .0)) (sym (d .1))
 
-  pub check-done : isColumn bytes (c .head .power) (pairsIn bytes c) ≡ true → done (c .head .count) ≡ check bytes
-  unfolding check andThen accepted need
-  check-done f = rw (e, f)
+  pub check-done : isTaken (accepted bytes c) ≡ true → done (c .head .count) ≡ check editions bytes
+  unfolding check andThen isTaken
+  check-done f = rw e (go (accepted bytes c) f)
+    where
+      go : (o : Outcome Pairs) → isTaken o ≡ true → done (c .head .count) ≡ andThen o (λ q. done (c .head .count))
+      go (done q) f = refl
+      go (refused x y) f = absurd (let z : _≡_ {A = ℕ} 0 1 = cc in omega arith)

@@ -1,14 +1,15 @@
 -- The tests of an opened column: its id section is judged with the header's numbers, then its value section is tested.
 -- Assumes nothing.
 use Prim.Native.Nat.{ℕ}
-use mathlib.Core.Bool.{Bool, false, _&&_}
+use mathlib.Core.Bool.{Bool, true, false, _&&_}
 use mathlib.Core.List.{List}
 use lib.Dec.{eqb}
 use Rattle.format.specs.Refusals.{Outcome, done, refused}
+use Rattle.format.specs.Pairs.{Pairs}
 use Rattle.format.specs.Column.{Head}
 use Rattle.format.specs.Opening.{Opened, idPart, valuePart}
 use Rattle.judge.specs.Judge.{judge}
-use Rattle.value_check.specs.ValuesOk.{valuesOk}
+use Rattle.values.specs.Edition.{tests}
 
 -- the judge accepts n ids
 unfoldable pub holds : ℕ → Outcome ℕ → Bool
@@ -19,4 +20,10 @@ unfoldable pub idsOk : Head → List ℕ → Bool
 idsOk h s = holds (h .count) (judge (h .power) (h .jumpCount) s)
 
 unfoldable pub columnOk : List ℕ → Opened → Bool
-columnOk bytes c = idsOk (c .head) (idPart bytes c) && valuesOk (c .head) (valuePart bytes c)
+columnOk bytes c =
+    idsOk (c .head) (idPart bytes c) && tests (c .head .edition) (c .head .count) (c .head .fields) (valuePart bytes c)
+
+-- whether the definition accepts
+unfoldable pub isTaken : Outcome Pairs → Bool
+isTaken (done q) = true
+isTaken (refused why w) = false

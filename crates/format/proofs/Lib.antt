@@ -1,6 +1,7 @@
 -- What is proved about the definitions: Demands.antt has the demands, AllCases.antt the computed cases, Meaning.antt the words of document 01
--- behind the definitions; the others lead there.
+-- behind the definitions, Lawful.antt what a codec owes and Editions.antt that each keeps it; the others lead there.
 pub mod AllCases
+pub mod Computing
 pub mod Starred
 pub mod Pins
 pub mod PinsSteps
@@ -26,9 +27,13 @@ pub mod Jumps
 pub mod Bounds
 pub mod Sizes
 pub mod Standing
+pub mod Lawful
+pub mod Scaled
+pub mod Editions
 pub mod Open
 pub mod RoundTrip
 pub mod Unique
+pub mod Halves
 pub mod Ones
 pub mod Dense
 pub mod Find

@@ -1,7 +1,7 @@
 -- That the definitions mean document 01's words where a reader could doubt it: smallest and greatest, the greatest common divisor, the
 -- least width, packed bits, the bitmap, rank entries, jump entries. Assumes nothing.
 use mathlib.Core.Path.{_≡_, refl, sym, ap, ap₂, _∙_, subst}
-use mathlib.Core.Bool.{Bool, true, false, cond, not}
+use mathlib.Core.Bool.{cond, not}
 use mathlib.Core.List.{List, [], _∷_, append-nil}
 use Prim.Native.Nat.{ℕ, suc, _+_, _-_, _*_, _/_, _%_, _^_, _<_, _≤_, _∣_}
 use native.Mathlib.Nat.{dvd-zero, mod-lt, zero-lt-suc, zero-add, add-zero, mul-le-mul-right, suc-mul}
@@ -22,7 +22,7 @@ use Rattle.format.specs.Values.{smallest, greatest, over, spread, gcdOf,
 use Rattle.format.specs.Pairs.{Asc, Below, Each}
 use Rattle.format.specs.Walk.{listed}
 use Rattle.format.specs.Runs.{AscBlocks, endOf}
-use Rattle.format.proofs.Cases.{below-or, equal-or}
+use Rattle.format.proofs.Cases.{below-or, equal-or, true-or}
 use Rattle.format.proofs.Values as Values
 use Rattle.format.proofs.Values.{each-map, smallest-each, smallest-has, most-has, greatest-each, spread-each, over-back, bit-length, bit-length-le}
 use Rattle.format.proofs.Gcd.{gcdOf-each, dvd-gcdOf}
@@ -141,33 +141,23 @@ packed-number = fetched-packed
 pub bitmap-bit : (rs : List ℕ) (x : ℕ) → Asc 0 rs → x < blockPlaces
     → lowAt 8 (low 8192 (bitmap rs)) (8 * (x / 64)) / 2 ^ (x % 64) % 2 ≡ cond (listed x rs) 1 0
 bitmap-bit rs x t h =
+    let few : occurs x rs < 2 = omega (arith, bit-is x rs t, mod-lt (bitmap rs / 2 ^ x) (zero-lt-suc 1)) in
     ap (λ (n : ℕ). lowAt 8 (low 8192 (bitmap rs)) n / 2 ^ (x % 64) % 2) (sym (zero-add (8 * (x / 64))))
     ∙ bit-at (low 8192 (bitmap rs)) 0 (bitmap rs) [] (sym (append-nil (low 8192 (bitmap rs)))) x h
     ∙ bit-is x rs t
-    ∙ go (listed x rs) refl
-  where
-    few : occurs x rs < 2
-    few = omega (arith, bit-is x rs t, mod-lt (bitmap rs / 2 ^ x) (zero-lt-suc 1))
-
-    go : (q : Bool) → listed x rs ≡ q → occurs x rs ≡ cond (listed x rs) 1 0
-    go true e = rw e (omega (arith, few, eqb-false (occurs x rs) 0 (occurs-listed x rs ∙ ap not e)))
-    go false e = rw e (eqb-true (occurs x rs) 0 (occurs-listed x rs ∙ ap not e))
+    ∙ true-or (listed x rs)
+    (λ e. rw e (omega (arith, eqb-false (occurs x rs) 0 (occurs-listed x rs ∙ ap not e))))
+    (λ e. rw e (eqb-true (occurs x rs) 0 (occurs-listed x rs ∙ ap not e)))
 
 -- rank entry t, high byte first, counts the places below t * 2 ^ p
 pub rank-entry : (p : ℕ) (rs : List ℕ) (t : ℕ) → Asc 0 rs → 0 < p → p ≤ maxPower → t < 2 ^ (16 - p)
     → highAt 2 (rankTable p rs) (2 * t) ≡ countBelow (t * 2 ^ p) rs
 rank-entry p rs t a hp hq h =
+    let sixteen : 16 - p + p ≡ 16 = omega arith in
+    let whole : 2 ^ (16 - p) * 2 ^ p ≡ 65536 = sym (pow-add 2 (16 - p) p) ∙ ap (λ (n : ℕ). 2 ^ n) sixteen in
+    let within : t * 2 ^ p < 65536 = omega (arith, mul-le-mul-right (2 ^ p) h, suc-mul t (2 ^ p), pow-pos p) in
     ap (highAt 2 (rankTable p rs)) (sym (zero-add (2 * t)))
     ∙ rank-at p rs (rankTable p rs) 0 [] a (sym (append-nil (rankTable p rs))) t (λ e. omega arith) h within
-  where
-    sixteen : 16 - p + p ≡ 16
-    sixteen = omega arith
-
-    whole : 2 ^ (16 - p) * 2 ^ p ≡ 65536
-    whole = sym (pow-add 2 (16 - p) p) ∙ ap (λ (n : ℕ). 2 ^ n) sixteen
-
-    within : t * 2 ^ p < 65536
-    within = omega (arith, whole, mul-le-mul-right (2 ^ p) h, suc-mul t (2 ^ p), pow-pos p)
 
 -- ---- jump entries
 
@@ -196,8 +186,7 @@ from-is b a (i ∷ is) t =
     below-or i (b * blockPlaces)
     (λ l.
     let one : 1 + countBelow (b * blockPlaces) is ≡ suc (countBelow (b * blockPlaces) is) = omega arith in
-    rw (lt-ltb i (b * blockPlaces) l, one)
-    (push-from b (i / blockPlaces) (i % blockPlaces) (runs is) (omega arith) ∙ from-is b (suc i) is (t .1)))
+    cc (lt-ltb i (b * blockPlaces) l, push-from b (i / blockPlaces) (i % blockPlaces) (runs is) (omega arith), from-is b (suc i) is (t .1)))
     (λ l.
     all-from b (runs (i ∷ is)) (asc-blocks b (i ∷ is) (l, t .1))
     ∙ ap (λ (n : ℕ). runs (drop n (i ∷ is))) (sym (count-higher (b * blockPlaces) (b * blockPlaces) (i ∷ is) (omega arith) (l, t .1))))
@@ -258,10 +247,7 @@ unfolding runs push endOf
 end-is next i [] = refl
 end-is next i (j ∷ is) =
     let s = push-some (j / blockPlaces) (j % blockPlaces) (runs is) in
-    ap (λ (gs : List Run). endOf next (push (i / blockPlaces) (i % blockPlaces) gs)) (s .2)
-    ∙ push-end next next (i / blockPlaces) (i % blockPlaces) (s .0) (s .1)
-    ∙ ap (endOf next) (sym (s .2))
-    ∙ end-is next j is
+    cc (push-end next next (i / blockPlaces) (i % blockPlaces) (s .0) (s .1), end-is next j is)
 
 pub entry-count : (p i : ℕ) (is : List ℕ) → Asc 0 (i ∷ is)
     → length (jumpsFrom p 0 0 0 (runs (i ∷ is))) ≡ getD (i ∷ is) (length is) 0 / blockPlaces + 2

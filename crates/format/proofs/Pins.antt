@@ -1,21 +1,19 @@
 -- Refusals 1 to 12 on both sides of their lines, as one computed table: the writer, the header, the lengths, the buffers.
--- (13 to 15 stand in PinsSteps.antt.) Assumes nothing.
-use mathlib.Core.Path.{_≡_, refl}
+-- (13 to 15 stand in PinsSteps.antt.) `search` makes a table by computing each case; a refusal names those that fail. Assumes nothing.
+use mathlib.Core.Path.{_≡_}
 use mathlib.Core.List.{List, [], _∷_, _++_}
 use Prim.Native.Nat.{ℕ, _^_, _-_}
 use lib.ListN.{take, replicate}
 use lib.IntN.{ℤ, pos, negsuc}
-use Rattle.format.specs.Refusals.{done, refused, andThen, need, needNone, LENGTHS, POWER, ORDER, RANGE, ROOM, SHORT, NUMBER, EDITION, HEADER, LENGTH, BUFFER, DAMAGED}
-use Rattle.format.specs.Bytes.{bytesOf, countFrom, same, digits, fromDigits}
-use Rattle.format.specs.HeaderNumbers.{groups, number, got, above, readGroups, readNumber}
-use Rattle.format.specs.Bits.{bitOf, bitAt, gather, tabulate, packed, fetched, unpacked}
-use Rattle.format.specs.Ids.{push, runs, kindOf, byKind, rankBytes, dataBytes, blockBytes, blockData, blockOf, endBlock, jumpsFrom, notTwo, jumps, entryBytes, blocks, idSection}
-use Rattle.format.specs.IdsRead.{shorts, placesIn, readRuns, idsOf}
-use Rattle.format.specs.Values.{leastOf, mostOf, smallest, greatest, spread, gcdIn, gcd, gcdOf, divisor, bitsIn, bitLength, width, stored, valueSection, valueAt}
-use Rattle.format.specs.Column.{headOf, headNumbers, column}
-use Rattle.format.specs.Writer.{notAbove, orderFault, rangeFault, write, writeReply}
-use Rattle.format.specs.Opening.{gotAt, numberAt, numbersAt, headFrom, headOk, openColumn, idPart, valuePart, valueIn}
-use Rattle.format.specs.Check.{pairsIn, allFit, isDone, isColumn, accepted, check, reading}
+use Rattle.format.specs.Refusals.{done, refused, given, LENGTHS, POWER, ORDER, RANGE, ROOM, SHORT, NUMBER, EDITION, HEADER, LENGTH, BUFFER, DAMAGED}
+use Rattle.format.specs.Bytes.{bytesOf}
+use Rattle.format.specs.HeaderNumbers.{number, got, readNumber, bad}
+use Rattle.format.specs.Ids.{blockBytes, endBlock, jumps}
+use Rattle.format.specs.Values.{divisor, width}
+use Rattle.format.specs.Editions.{editions}
+use Rattle.format.specs.Writer.{write, writeReply}
+use Rattle.format.specs.Check.{check, reading}
+use Rattle.format.proofs.Computing.{computing}
 
 -- ---- bytes
 
@@ -90,148 +88,74 @@ pub record WriterCases : Type 0 where
   pub two-entries : jumps 0 (7 ∷ []) ≡ []
 
 pub writer-cases : WriterCases
-unfolding andThen need needNone bytesOf countFrom digits groups number bitOf gather tabulate packed push runs kindOf byKind rankBytes dataBytes blockBytes blockData blockOf endBlock jumpsFrom notTwo jumps entryBytes blocks idSection leastOf mostOf smallest greatest spread gcdIn gcd gcdOf divisor bitsIn bitLength width stored valueSection headOf headNumbers column notAbove orderFault rangeFault write writeReply headed section sections three lowest highest
-writer-cases =
-    record {
-      more-values = refl;
-      more-ids = refl;
-      lengths-before-power = refl;
-      power-1 = refl;
-      power-6 = refl;
-      power-16 = refl;
-      power-0 = refl;
-      power-7 = refl;
-      power-15 = refl;
-      power-before-order = refl;
-      falls = refl;
-      order-before-range = refl;
-      too-large = refl;
-      short-room = refl;
-      exact-room = refl;
-      more-room = refl;
-      sparse-block = refl;
-      dense-block = refl;
-      dense-without-ranks = refl;
-      dense-last = refl;
-      full-block = refl;
-      widest-divisor = refl;
-      widest = refl;
-      half-divisor = refl;
-      half = refl;
-      equal-divisor = refl;
-      equal = refl;
-      missing-blocks = refl;
-      two-entries = refl;
-    }
+unfolding computing headed section sections three lowest highest
+writer-cases = search
 
 -- ---- the header
 
 pub record HeaderCases : Type 0 where
   -- 7: the bytes end before a header number's last byte
-  pub no-bytes : check [] ≡ refused SHORT 0
-  pub edition-alone : check (0x01 ∷ []) ≡ refused SHORT 0
-  pub nine-go-on : check (replicate 9 0x80) ≡ refused SHORT 0
+  pub no-bytes : check editions [] ≡ refused SHORT 0
+  pub edition-alone : check editions (0x01 ∷ []) ≡ refused SHORT 0
+  pub nine-go-on : check editions (replicate 9 0x80) ≡ refused SHORT 0
   -- 8: ten bytes that go on; the tenth byte can only be 1; not minimal
-  pub ten-go-on : check (replicate 10 0x80) ≡ refused NUMBER 0
-  pub tenth-two : check (replicate 9 0xFF ++ (0x02 ∷ [])) ≡ refused NUMBER 0
-  pub tenth-zero : check (replicate 9 0xFF ++ (0x00 ∷ [])) ≡ refused NUMBER 0
+  pub ten-go-on : check editions (replicate 10 0x80) ≡ refused NUMBER 0
+  pub tenth-two : check editions (replicate 9 0xFF ++ (0x02 ∷ [])) ≡ refused NUMBER 0
+  pub tenth-zero : check editions (replicate 9 0xFF ++ (0x00 ∷ [])) ≡ refused NUMBER 0
   pub tenth-one : readNumber (replicate 9 0xFF ++ (0x01 ∷ [])) ≡ got (2 ^ 64 - 1) 10
+  pub tenth-bad : readNumber (replicate 9 0xFF ++ (0x02 ∷ [])) ≡ bad 9
+  pub ten-bytes : number (2 ^ 63) ≡ replicate 9 0x80 ++ (0x01 ∷ [])
+  pub nine-bytes : number (2 ^ 63 - 1) ≡ replicate 8 0xFF ++ (0x7F ∷ [])
   pub zero-alone : readNumber (0x00 ∷ []) ≡ got 0 1
-  pub ends-in-zero : check (0x01 ∷ 0x83 ∷ 0x00 ∷ []) ≡ refused NUMBER 0
+  pub ends-in-zero : check editions (0x01 ∷ 0x83 ∷ 0x00 ∷ []) ≡ refused NUMBER 0
   -- 7 and 8 go by the first bad header number
-  pub number-then-short : check (0x01 ∷ 0x83 ∷ 0x00 ∷ 0x80 ∷ []) ≡ refused NUMBER 0
+  pub number-then-short : check editions (0x01 ∷ 0x83 ∷ 0x00 ∷ 0x80 ∷ []) ≡ refused NUMBER 0
   -- 9: as soon as the first number is read, before a later 7 or 8
-  pub edition-two : check (0x02 ∷ []) ≡ refused EDITION 0
-  pub edition-zero : check (0x00 ∷ 0x80 ∷ 0x00 ∷ []) ≡ refused EDITION 0
-  pub edition-largest : check (replicate 9 0xFF ++ (0x01 ∷ [])) ≡ refused EDITION 0
+  pub edition-two : check editions (0x02 ∷ []) ≡ refused EDITION 0
+  pub edition-zero : check editions (0x00 ∷ 0x80 ∷ 0x00 ∷ []) ≡ refused EDITION 0
+  pub edition-largest : check editions (replicate 9 0xFF ++ (0x01 ∷ [])) ≡ refused EDITION 0
   -- 10: only after all nine numbers; p is 6 here, and the last number is cut, or not minimal
-  pub cut-before-rules : check (headed (1 ∷ 3 ∷ 6 ∷ 16 ∷ 0 ∷ 2 ∷ 270 ∷ 5 ∷ []) (0x81 ∷ [])) ≡ refused SHORT 0
-  pub number-before-rules : check (headed (1 ∷ 3 ∷ 6 ∷ 16 ∷ 0 ∷ 2 ∷ 270 ∷ 5 ∷ []) (0x81 ∷ 0x00 ∷ section)) ≡ refused NUMBER 0
+  pub cut-before-rules : check editions (headed (1 ∷ 3 ∷ 6 ∷ 16 ∷ 0 ∷ 2 ∷ 270 ∷ 5 ∷ []) (0x81 ∷ [])) ≡ refused SHORT 0
+  pub number-before-rules : check editions (headed (1 ∷ 3 ∷ 6 ∷ 16 ∷ 0 ∷ 2 ∷ 270 ∷ 5 ∷ []) (0x81 ∷ 0x00 ∷ section)) ≡ refused NUMBER 0
   -- each rule broken alone, and its other side: p
-  pub power-1 : check (three 1) ≡ refused HEADER 0
-  pub power-6 : check (three 6) ≡ refused HEADER 0
-  pub power-16 : check (three 16) ≡ refused HEADER 0
-  pub power-0 : check (three 0) ≡ done 3
-  pub power-7 : check (three 7) ≡ done 3
-  pub power-15 : check (three 15) ≡ done 3
+  pub power-1 : check editions (three 1) ≡ refused HEADER 0
+  pub power-6 : check editions (three 6) ≡ refused HEADER 0
+  pub power-16 : check editions (three 16) ≡ refused HEADER 0
+  pub power-0 : check editions (three 0) ≡ done 3
+  pub power-7 : check editions (three 7) ≡ done 3
+  pub power-15 : check editions (three 15) ≡ done 3
   -- n, with w 0: at its limit it breaks no header rule, and these are no column
-  pub count-above : check (headed (1 ∷ 2147352577 ∷ 9 ∷ 16 ∷ 0 ∷ 0 ∷ 270 ∷ 5 ∷ 0 ∷ []) section) ≡ refused HEADER 0
-  pub count-limit : check (headed (1 ∷ 2147352576 ∷ 9 ∷ 16 ∷ 0 ∷ 0 ∷ 270 ∷ 5 ∷ 0 ∷ []) section) ≡ refused DAMAGED 0
+  pub count-above : check editions (headed (1 ∷ 2147352577 ∷ 9 ∷ 16 ∷ 0 ∷ 0 ∷ 270 ∷ 5 ∷ 0 ∷ []) section) ≡ refused HEADER 0
+  pub count-limit : check editions (headed (1 ∷ 2147352576 ∷ 9 ∷ 16 ∷ 0 ∷ 0 ∷ 270 ∷ 5 ∷ 0 ∷ []) section) ≡ refused DAMAGED 0
   -- J, with L large enough: at its limit it breaks no header rule, and the bytes are too few
-  pub jumps-above : check (headed (1 ∷ 3 ∷ 9 ∷ 262150 ∷ 32768 ∷ 2 ∷ 270 ∷ 5 ∷ 1 ∷ []) sections) ≡ refused HEADER 0
-  pub jumps-limit : check (headed (1 ∷ 3 ∷ 9 ∷ 262150 ∷ 32767 ∷ 2 ∷ 270 ∷ 5 ∷ 1 ∷ []) sections) ≡ refused LENGTH 0
+  pub jumps-above : check editions (headed (1 ∷ 3 ∷ 9 ∷ 262150 ∷ 32768 ∷ 2 ∷ 270 ∷ 5 ∷ 1 ∷ []) sections) ≡ refused HEADER 0
+  pub jumps-limit : check editions (headed (1 ∷ 3 ∷ 9 ∷ 262150 ∷ 32767 ∷ 2 ∷ 270 ∷ 5 ∷ 1 ∷ []) sections) ≡ refused LENGTH 0
   -- w, with its V
-  pub width-above : check (headed (1 ∷ 3 ∷ 9 ∷ 16 ∷ 0 ∷ 65 ∷ 270 ∷ 5 ∷ 25 ∷ []) (section ++ replicate 25 0)) ≡ refused HEADER 0
-  pub width-limit : check (headed (1 ∷ 3 ∷ 9 ∷ 16 ∷ 0 ∷ 64 ∷ 270 ∷ 5 ∷ 24 ∷ []) (section ++ replicate 24 0)) ≡ refused DAMAGED 0
+  pub width-above : check editions (headed (1 ∷ 3 ∷ 9 ∷ 16 ∷ 0 ∷ 65 ∷ 270 ∷ 5 ∷ 25 ∷ []) (section ++ replicate 25 0)) ≡ refused HEADER 0
+  pub width-limit : check editions (headed (1 ∷ 3 ∷ 9 ∷ 16 ∷ 0 ∷ 64 ∷ 270 ∷ 5 ∷ 24 ∷ []) (section ++ replicate 24 0)) ≡ refused DAMAGED 0
   -- g
-  pub divisor-zero : check (headed (1 ∷ 3 ∷ 9 ∷ 16 ∷ 0 ∷ 2 ∷ 270 ∷ 0 ∷ 1 ∷ []) sections) ≡ refused HEADER 0
-  pub divisor-one : check (headed (1 ∷ 3 ∷ 9 ∷ 16 ∷ 0 ∷ 2 ∷ 270 ∷ 1 ∷ 1 ∷ []) sections) ≡ done 3
+  pub divisor-zero : check editions (headed (1 ∷ 3 ∷ 9 ∷ 16 ∷ 0 ∷ 2 ∷ 270 ∷ 0 ∷ 1 ∷ []) sections) ≡ refused HEADER 0
+  pub divisor-one : check editions (headed (1 ∷ 3 ∷ 9 ∷ 16 ∷ 0 ∷ 2 ∷ 270 ∷ 1 ∷ 1 ∷ []) sections) ≡ done 3
   -- L at least 6 + 8J
-  pub section-5 : check (noPairs 5 0 5) ≡ refused HEADER 0
-  pub section-6 : check (noPairs 6 0 6) ≡ refused DAMAGED 0
-  pub section-13 : check (noPairs 13 1 13) ≡ refused HEADER 0
-  pub section-14 : check (noPairs 14 1 14) ≡ done 0
+  pub section-5 : check editions (noPairs 5 0 5) ≡ refused HEADER 0
+  pub section-6 : check editions (noPairs 6 0 6) ≡ refused DAMAGED 0
+  pub section-13 : check editions (noPairs 13 1 13) ≡ refused HEADER 0
+  pub section-14 : check editions (noPairs 14 1 14) ≡ done 0
   -- V one more and one less
-  pub values-more : check (headed (1 ∷ 3 ∷ 9 ∷ 16 ∷ 0 ∷ 2 ∷ 270 ∷ 5 ∷ 2 ∷ []) (sections ++ (0 ∷ []))) ≡ refused HEADER 0
-  pub values-less : check (headed (1 ∷ 3 ∷ 9 ∷ 16 ∷ 0 ∷ 2 ∷ 270 ∷ 5 ∷ 0 ∷ []) section) ≡ refused HEADER 0
+  pub values-more : check editions (headed (1 ∷ 3 ∷ 9 ∷ 16 ∷ 0 ∷ 2 ∷ 270 ∷ 5 ∷ 2 ∷ []) (sections ++ (0 ∷ []))) ≡ refused HEADER 0
+  pub values-less : check editions (headed (1 ∷ 3 ∷ 9 ∷ 16 ∷ 0 ∷ 2 ∷ 270 ∷ 5 ∷ 0 ∷ []) section) ≡ refused HEADER 0
   -- 11: one byte more and one less; after 10, and before 13
-  pub one-more : check (three 9 ++ (0 ∷ [])) ≡ refused LENGTH 0
-  pub one-less : check (headed (1 ∷ 3 ∷ 9 ∷ 16 ∷ 0 ∷ 2 ∷ 270 ∷ 5 ∷ 1 ∷ []) section) ≡ refused LENGTH 0
-  pub header-alone : check (headed (1 ∷ 3 ∷ 9 ∷ 16 ∷ 0 ∷ 2 ∷ 270 ∷ 5 ∷ 1 ∷ []) []) ≡ refused LENGTH 0
+  pub one-more : check editions (three 9 ++ (0 ∷ [])) ≡ refused LENGTH 0
+  pub one-less : check editions (headed (1 ∷ 3 ∷ 9 ∷ 16 ∷ 0 ∷ 2 ∷ 270 ∷ 5 ∷ 1 ∷ []) section) ≡ refused LENGTH 0
+  pub header-alone : check editions (headed (1 ∷ 3 ∷ 9 ∷ 16 ∷ 0 ∷ 2 ∷ 270 ∷ 5 ∷ 1 ∷ []) []) ≡ refused LENGTH 0
   -- 12: with n; before 13 and after 11
-  pub ids-room : reading (three 9) 2 3 ≡ refused BUFFER 3
-  pub values-room : reading (three 9) 3 2 ≡ refused BUFFER 3
-  pub rooms : reading (three 9) 3 3 ≡ done (record { ids = 0 ∷ 2 ∷ 7 ∷ []; values = pos 150 ∷ pos 140 ∷ pos 135 ∷ [] })
-  pub room-before-damage : reading spareSet 3 2 ≡ refused BUFFER 3
-  pub damage-with-rooms : reading spareSet 3 3 ≡ refused DAMAGED 0
-  pub length-before-room : reading (three 9 ++ (0 ∷ [])) 0 0 ≡ refused LENGTH 0
+  pub ids-room : reading editions (three 9) 2 3 ≡ refused BUFFER 3
+  pub values-room : reading editions (three 9) 3 2 ≡ refused BUFFER 3
+  pub rooms : reading editions (three 9) 3 3 ≡ done (record { ids = 0 ∷ 2 ∷ 7 ∷ []; values = pos 150 ∷ pos 140 ∷ pos 135 ∷ [] })
+  pub room-before-damage : reading editions spareSet 3 2 ≡ refused BUFFER 3
+  pub damage-with-rooms : reading editions spareSet 3 3 ≡ refused DAMAGED 0
+  pub length-before-room : reading editions (three 9 ++ (0 ∷ [])) 0 0 ≡ refused LENGTH 0
 
 pub header-cases : HeaderCases
-unfolding andThen need needNone bytesOf countFrom same digits fromDigits groups number above readGroups readNumber bitOf bitAt gather tabulate packed fetched unpacked push runs kindOf byKind rankBytes dataBytes blockBytes blockData blockOf endBlock jumpsFrom notTwo jumps entryBytes blocks idSection shorts placesIn readRuns idsOf leastOf mostOf smallest greatest spread gcdIn gcd gcdOf divisor bitsIn bitLength width stored valueSection valueAt headOf headNumbers column notAbove orderFault rangeFault write gotAt numberAt numbersAt headFrom headOk openColumn idPart valuePart valueIn pairsIn allFit isDone isColumn accepted check reading headed section sections three spareSet noPairs
-header-cases =
-    record {
-      no-bytes = refl;
-      edition-alone = refl;
-      nine-go-on = refl;
-      ten-go-on = refl;
-      tenth-two = refl;
-      tenth-zero = refl;
-      tenth-one = refl;
-      zero-alone = refl;
-      ends-in-zero = refl;
-      number-then-short = refl;
-      edition-two = refl;
-      edition-zero = refl;
-      edition-largest = refl;
-      cut-before-rules = refl;
-      number-before-rules = refl;
-      power-1 = refl;
-      power-6 = refl;
-      power-16 = refl;
-      power-0 = refl;
-      power-7 = refl;
-      power-15 = refl;
-      count-above = refl;
-      count-limit = refl;
-      jumps-above = refl;
-      jumps-limit = refl;
-      width-above = refl;
-      width-limit = refl;
-      divisor-zero = refl;
-      divisor-one = refl;
-      section-5 = refl;
-      section-6 = refl;
-      section-13 = refl;
-      section-14 = refl;
-      values-more = refl;
-      values-less = refl;
-      one-more = refl;
-      one-less = refl;
-      header-alone = refl;
-      ids-room = refl;
-      values-room = refl;
-      rooms = refl;
-      room-before-damage = refl;
-      damage-with-rooms = refl;
-      length-before-room = refl;
-    }
+unfolding computing headed section sections three spareSet noPairs
+header-cases = search

@@ -1,40 +1,37 @@
--- The column of a pair list is opened, read back to that list, and passes the check. Assumes nothing.
-use mathlib.Core.Path.{_≡_, refl, sym, ap, _∙_}
+-- The column of a pair list, in every edition whose codec is lawful, is opened, read back to that list, and passes the check.
+-- Assumes nothing.
+use mathlib.Core.Path.{_≡_, refl, ap, _∙_}
 use mathlib.Core.Bool.{true, false}
-use mathlib.Core.List.{List, [], _∷_, map}
-use mathlib.Core.Option.{none}
+use mathlib.Core.List.{List, [], _∷_}
+use mathlib.Core.Option.{Option, none, some, bind}
 use Prim.Native.Nat.{ℕ, suc, _+_, _*_, _^_, _<_, _≤_, zero-le}
-use native.Mathlib.Nat.{mul-le-mul-left, le-refl}
+use native.Mathlib.Nat.{le-refl}
 use native.Mathlib.Omega.{arith}
 use lib.Dec.{eqb, leb}
-use lib.IntN.{ℤ}
-use lib.ListN.{length, length-map}
+use lib.IntN.{ℤ, pos}
+use lib.ListN.{length, getD}
 use borrow.Author.Tests.{eq-eqb, eqb-false, le-leb, lt-leb, lt-ltb}
 use Rattle.format.specs.Limits.{powerOk}
-use Rattle.format.specs.Refusals.{done, refused, andThen, need, needNone, ROOM}
+use Rattle.format.specs.Refusals.{done, refused, andThen, need, given, needNone, ROOM}
 use Rattle.format.specs.Bytes.{bytesOf, same}
-use Rattle.format.specs.HeaderNumbers.{zigzag}
-use Rattle.format.specs.Bits.{packedBytes, packed, unpacked}
 use Rattle.format.specs.Ids.{Run, runs, idSection, jumps, blocks, blockBytes, entryBytes}
 use Rattle.format.specs.IdsRead.{readRuns, idsOf}
-use Rattle.format.specs.Values.{width, smallest, divisor, stored, valueSection, valueAt}
-use Rattle.format.specs.Pairs.{Pairs, Below, Asc, Each, Fits, Valid}
+use Rattle.format.specs.Editions.{Edition, Knows, codec}
+use Rattle.format.specs.Pairs.{Below, Asc, Valid}
 use Rattle.format.specs.Column.{Head, headOf, column}
-use Rattle.format.specs.Writer.{notAbove, orderFault, rangeFault, write}
+use Rattle.format.specs.Writer.{notAbove, orderFault, rangeFault, writeAs}
 use Rattle.format.specs.Opening.{headOk, Opened, openColumn, idPart, valuePart, valueIn}
-use Rattle.format.specs.Check.{pairsIn, allFit, isDone, isColumn, accepted, check, reading}
-use Rattle.format.specs.Runs.{AllFine, AscBlocks, totalBytes}
+use Rattle.format.specs.Check.{allValues, pairsIn, isDone, isColumn, accepted, check, reading}
 use Rattle.format.proofs.Places.{asc-length}
 use Rattle.format.proofs.Section.{length-idSection, length-blocks}
 use Rattle.format.proofs.Blocks.{read-runs}
 use Rattle.format.proofs.Runs.{ids-runs, fine-runs}
 use Rattle.format.proofs.Jumps.{asc-blocks}
-use Rattle.format.proofs.Bits.{length-packed, unpacked-packed}
-use Rattle.format.proofs.Values.{values-back, stored-below}
-use Rattle.format.proofs.Fits.{unzigzag-zigzag}
-use Rattle.format.proofs.Bounds.{rank-le, total-le, end-le, jumps-le, width-le, zig-lt, divisor-is}
+use Rattle.format.proofs.Bounds.{rank-le, total-le, end-le, jumps-le}
 use Rattle.format.proofs.Rules.{power-fact}
-use Rattle.format.proofs.Open.{headed, openedAs, opened-is, id-part, value-part}
+use Rattle.format.proofs.Lawful.{Storable, Lawful}
+use Rattle.format.proofs.Open.{tail, openedAs, opened-is, id-part, value-part}
+use Rattle.format.specs.Runs.{totalBytes, AllFine, AscBlocks}
 
 -- ---- the power
 
@@ -66,25 +63,22 @@ unfolding same
 same-refl [] = refl
 same-refl (x ∷ xs) = rw (eq-eqb x x refl) (same-refl xs)
 
-pub all-fit : (vs : List ℤ) → Each Fits vs → allFit vs ≡ true
-unfolding allFit Fits
-all-fit [] t = refl
-all-fit (v ∷ vs) t = rw (t .0) (all-fit vs (t .1))
+-- the values come back one by one
+pub all-values : (vs : List ℤ) (f : ℕ → Option ℤ) → ((i : ℕ) → i < length vs → f i ≡ some (getD vs i (pos 0))) → allValues (length vs) f ≡ some vs
+unfolding allValues bind
+all-values [] f h = refl
+all-values (v ∷ vs) f h = rw (h 0 (omega arith), all-values vs (λ i. f (suc i)) (λ i k. h (suc i) (omega arith)))
 
 pub runs-le : (p : ℕ) (gs : List Run) → length gs ≤ totalBytes p gs
 unfolding totalBytes blockBytes
 runs-le p [] = zero-le
 runs-le p (g ∷ gs) = omega (arith, runs-le p gs)
 
+-- ---- the ids' half, the same in each edition
+
 module _ (p : ℕ) (ids : List ℕ) (vs : List ℤ) (ok : Valid p ids vs) where
-  unfoldable pub is : List ℕ
-  is = idSection p ids
-
-  unfoldable pub xs : List ℕ
-  xs = valueSection vs
-
-  unfoldable pub h : Head
-  h = headOf p ids vs (length (idSection p ids)) (length (valueSection vs))
+  pub power16 : p ≤ 16
+  power16 = omega (arith, power-le p (ok .power))
 
   pub blocks-asc : AscBlocks 0 (runs ids)
   blocks-asc = asc-blocks 0 ids (ok .ascending)
@@ -95,138 +89,135 @@ module _ (p : ℕ) (ids : List ℕ) (vs : List ℤ) (ok : Valid p ids vs) where
   pub count-le : length ids ≤ 2147352576
   count-le = omega (arith, asc-length 0 2147352576 ids zero-le (ok .ascending) (ok .range))
 
+  pub storable : Storable vs
+  storable = record { few = omega (arith, count-le, ok .lengths); fit = ok .fit }
+
   -- 9220 bytes for each of 32766 blocks
   pub blocks-le : totalBytes p (runs ids) ≤ 302102520
   blocks-le =
       omega (arith, total-le p 0 (runs ids) (rank-le p (power-ge p (ok .power))) blocks-asc, end-le 0 (runs ids) zero-le blocks-fine)
 
+  pub entries-le : length (jumps p ids) ≤ 32767
+  entries-le = jumps-le p ids blocks-asc blocks-fine
+
   pub section-is : length (idSection p ids) ≡ totalBytes p (runs ids) + (6 + 8 * length (jumps p ids))
-  section-is = length-idSection p ids (omega (arith, power-le p (ok .power)))
+  section-is = length-idSection p ids power16
 
-  pub values-are : length (valueSection vs) ≡ packedBytes (length ids) (width vs)
-  unfolding valueSection stored
-  values-are =
-      length-packed (width vs) (stored vs)
-      ∙ ap (λ (n : ℕ). packedBytes n (width vs)) (length-map vs _ ∙ sym (ok .lengths))
-
-  small : Below (2 ^ 64) (length ids ∷ p ∷ length (idSection p ids) ∷ length (jumps p ids) ∷ width vs ∷ zigzag (smallest vs) ∷ divisor vs ∷ length (valueSection vs) ∷ [])
-  small = (
-    omega (arith, count-le),
-    (
-      omega (arith, power-le p (ok .power)),
-      (
-        omega (arith, section-is, blocks-le, jumps-le p ids blocks-asc blocks-fine),
-        (
-          omega (arith, jumps-le p ids blocks-asc blocks-fine),
-          (
-            omega (arith, width-le vs (ok .fit)),
-            (
-              zig-lt vs (ok .fit),
-              (
-                divisor-is vs (ok .fit) .1,
-                (omega (arith, values-are, count-le, mul-le-mul-left (length ids) (width-le vs (ok .fit))), tt),
-              ),
-            ),
-          ),
-        ),
-      ),
-    ),
-  )
-
-  head-ok : headOk h ≡ true
-  unfolding headOk headOf h
-  head-ok =
-      rw (
-        le-leb (length ids) 2147352576 count-le,
-        ok .power,
-        le-leb (length (jumps p ids)) 32767 (jumps-le p ids blocks-asc blocks-fine),
-        le-leb (width vs) 64 (width-le vs (ok .fit)),
-        le-leb 1 (divisor vs) (divisor-is vs (ok .fit) .0),
-        le-leb (6 + 8 * length (jumps p ids)) (length (idSection p ids)) (omega (arith, section-is)),
-        eq-eqb _ _ values-are,
-      )
-
-  column-is : column p ids vs ≡ headed h is xs
-  unfolding column is xs h
-  column-is = refl
-
-  unfoldable pub the-column : Opened
-  the-column = openedAs h is xs
-
-  pub opened : openColumn (column p ids vs) ≡ done the-column
-  unfolding the-column headOf h is xs column
-  opened = opened-is h is xs small head-ok refl refl
-
-  pub ids-part : idPart (column p ids vs) the-column ≡ idSection p ids
-  unfolding the-column headOf h is xs column
-  ids-part = id-part h is xs small head-ok refl refl
-
-  pub values-part : valuePart (column p ids vs) the-column ≡ valueSection vs
-  unfolding the-column headOf h is xs column
-  values-part = value-part h is xs small head-ok refl refl
-
-  -- ---- read back
-
-  ids-back : idsOf (readRuns (length is) p is) ≡ ids
-  unfolding is idSection blocks
+  ids-back : idsOf (readRuns (length (idSection p ids)) p (idSection p ids)) ≡ ids
+  unfolding idSection blocks
   ids-back =
-      ap idsOf (read-runs (length (idSection p ids)) p (runs ids) (bytesOf entryBytes (jumps p ids)) (omega (arith, power-le p (ok .power))) blocks-fine
+      ap idsOf (read-runs (length (idSection p ids)) p (runs ids) (bytesOf entryBytes (jumps p ids)) power16 blocks-fine
       (omega (arith, section-is, runs-le p (runs ids))))
       ∙ ids-runs ids
 
-  pub numbers-back : unpacked (width vs) (length ids) xs ≡ stored vs
-  unfolding xs valueSection stored
-  numbers-back =
-      ap (λ (n : ℕ). unpacked (width vs) n (packed (width vs) (stored vs))) (ok .lengths ∙ sym (length-map vs _))
-      ∙ unpacked-packed (width vs) (stored vs) (stored-below vs (divisor-is vs (ok .fit) .0))
+  -- no start comes near OFFSET's line
+  pub starts-low : length (blocks p ids) < 2147483647
+  unfolding blocks
+  starts-low = omega (arith, length-blocks p (runs ids) power16, blocks-le)
 
-  pub the-values : map (valueIn h) (stored vs) ≡ vs
-  unfolding valueIn headOf h
-  the-values = ap (λ (z : ℤ). map (valueAt z (divisor vs)) (stored vs)) (unzigzag-zigzag (smallest vs)) ∙ values-back vs
+-- ---- the column of a list, as it is opened
 
-  pub pairs-back : pairsIn (column p ids vs) the-column ≡ record { ids = ids; values = vs }
-  unfolding pairsIn the-column headOf h is xs column
-  pairs-back = rw (id-part h is xs small head-ok refl refl, value-part h is xs small head-ok refl refl, ids-back, numbers-back)
-      (ap {B = Pairs} (λ (l : List ℤ). record { ids = ids; values = l }) the-values)
+module _ (ed : Edition) (p : ℕ) (ids : List ℕ) (vs : List ℤ) where
+  unfoldable pub the-head : Head
+  the-head = headOf ed p ids vs (length (idSection p ids)) (length (codec ed .section vs))
+
+  unfoldable pub the-column : Opened
+  the-column = openedAs the-head (idSection p ids) (codec ed .section vs)
+
+-- ---- the round trip, for every edition whose codec is lawful
+
+module _ (ed : Edition) (law : Lawful (codec ed)) (p : ℕ) (ids : List ℕ) (vs : List ℤ) (ok : Valid p ids vs) where
+  abbrev bytes : List ℕ
+  bytes = column ed p ids vs
+
+  abbrev col : Opened
+  col = the-column ed p ids vs
+
+  small : Below (2 ^ 64) (tail (the-head ed p ids vs))
+  unfolding headOf the-head
+  small =
+      let f = law .small-fields vs (storable p ids vs ok) in (
+        omega (arith, count-le p ids vs ok),
+        (
+          omega (arith, power16 p ids vs ok),
+          (
+            omega (arith, section-is p ids vs ok, blocks-le p ids vs ok, entries-le p ids vs ok),
+            (
+              omega (arith, entries-le p ids vs ok),
+              (f .0, (f .1 .0, (f .1 .1 .0, (law .small-section vs (storable p ids vs ok), tt)))),
+            ),
+          ),
+        ),
+      )
+
+  head-ok : headOk (the-head ed p ids vs) ≡ true
+  unfolding headOk headOf the-head
+  head-ok =
+      rw (
+        le-leb (length ids) 2147352576 (count-le p ids vs ok),
+        ok .power,
+        le-leb (length (jumps p ids)) 32767 (entries-le p ids vs ok),
+        le-leb (6 + 8 * length (jumps p ids)) (length (idSection p ids)) (omega (arith, section-is p ids vs ok)),
+        ok .lengths,
+        law .rules vs (storable p ids vs ok),
+      )
+
+  pub opened : (known : List Edition) → Knows known ed → openColumn known bytes ≡ done col
+  unfolding the-column headOf the-head column
+  opened = opened-is (the-head ed p ids vs) (idSection p ids) (codec ed .section vs) small head-ok refl refl
+
+  pub ids-part : idPart bytes col ≡ idSection p ids
+  unfolding the-column headOf the-head column
+  ids-part = id-part (the-head ed p ids vs) (idSection p ids) (codec ed .section vs) small head-ok refl refl
+
+  pub values-part : valuePart bytes col ≡ codec ed .section vs
+  unfolding the-column headOf the-head column
+  values-part = value-part (the-head ed p ids vs) (idSection p ids) (codec ed .section vs) small head-ok refl refl
+
+  -- each value, by the edition's step 7
+  pub value-back : (i : ℕ) → i < length vs → valueIn (the-head ed p ids vs) (codec ed .section vs) i ≡ some (getD vs i (pos 0))
+  unfolding valueIn headOf the-head
+  value-back i k = rw (ok .lengths) (law .back vs (storable p ids vs ok) i k)
+
+  values-back : allValues (length ids) (valueIn (the-head ed p ids vs) (codec ed .section vs)) ≡ some vs
+  values-back =
+      ap (λ (n : ℕ). allValues n (valueIn (the-head ed p ids vs) (codec ed .section vs))) (ok .lengths) ∙ all-values vs _ value-back
+
+  pub pairs-back : pairsIn bytes col ≡ some (record { ids = ids; values = vs })
+  unfolding pairsIn the-column headOf the-head
+  pairs-back = rw (ids-part, values-part, ids-back p ids vs ok, values-back)
 
   -- ---- the calls
 
-  -- no start comes near OFFSET's line (request 7)
-  pub starts-low : length (blocks p ids) < 2147483647
-  unfolding blocks
-  starts-low = omega (arith, length-blocks p (runs ids) (omega (arith, power-le p (ok .power))), blocks-le)
-
   -- the writer has nothing but the room to ask for
-  pub room-decides : (room : ℕ) → write p ids vs room
-      ≡ need (leb (length (column p ids vs)) room) ROOM (length (column p ids vs)) (done (column p ids vs))
-  unfolding write need needNone
+  room-decides : (room : ℕ) → writeAs ed p ids vs room ≡ need (leb (length bytes) room) ROOM (length bytes) (done bytes)
+  unfolding writeAs need needNone
   room-decides room =
       rw (
         eq-eqb (length ids) (length vs) (ok .lengths),
         ok .power,
         in-order ids (ok .ascending),
         in-range 0 ids (ok .range),
-        lt-ltb (length (blocks p ids)) 2147483647 starts-low,
+        lt-ltb (length (blocks p ids)) 2147483647 (starts-low p ids vs ok),
       )
 
-  pub written : (room : ℕ) → length (column p ids vs) ≤ room → write p ids vs room ≡ done (column p ids vs)
+  pub written : (room : ℕ) → length bytes ≤ room → writeAs ed p ids vs room ≡ done bytes
   unfolding need
-  written room k = room-decides room ∙ rw (le-leb (length (column p ids vs)) room k) refl
+  written room k = room-decides room ∙ rw (le-leb (length bytes) room k) refl
 
-  pub no-room : (room : ℕ) → room < length (column p ids vs) → write p ids vs room ≡ refused ROOM (length (column p ids vs))
+  pub no-room : (room : ℕ) → room < length bytes → writeAs ed p ids vs room ≡ refused ROOM (length bytes)
   unfolding need
-  no-room room k = room-decides room ∙ rw (lt-leb (length (column p ids vs)) room k) refl
+  no-room room k = room-decides room ∙ rw (lt-leb (length bytes) room k) refl
 
-  pub taken : accepted (column p ids vs) the-column ≡ done (record { ids = ids; values = vs })
-  unfolding accepted need isColumn isDone the-column headOf h
-  taken =
-      rw (pairs-back, all-fit vs (ok .fit), written (length (column p ids vs)) (le-refl (length (column p ids vs))), same-refl (column p ids vs))
+  pub taken : accepted bytes col ≡ done (record { ids = ids; values = vs })
+  unfolding accepted andThen given need isColumn isDone the-column headOf the-head
+  taken = rw (pairs-back, written (length bytes) (le-refl (length bytes)), same-refl bytes)
 
-  pub checked : check (column p ids vs) ≡ done (length ids)
-  unfolding check andThen the-column headOf h
-  checked = rw (opened, taken)
+  pub checked : (known : List Edition) → Knows known ed → check known bytes ≡ done (length ids)
+  unfolding check andThen the-column headOf the-head
+  checked known k = rw (opened known k, taken)
 
-  pub read : (idRoom valueRoom : ℕ) → length ids ≤ idRoom → length ids ≤ valueRoom
-      → reading (column p ids vs) idRoom valueRoom ≡ done (record { ids = ids; values = vs })
-  unfolding reading andThen need the-column headOf h
-  read a b ha hb = rw (opened, le-leb (length ids) a ha, le-leb (length ids) b hb, taken)
+  pub read : (known : List Edition) → Knows known ed → (idRoom valueRoom : ℕ) → length ids ≤ idRoom → length ids ≤ valueRoom
+      → reading known bytes idRoom valueRoom ≡ done (record { ids = ids; values = vs })
+  unfolding reading andThen need the-column headOf the-head
+  read known k a b ha hb = rw (opened known k, le-leb (length ids) a ha, le-leb (length ids) b hb, taken)

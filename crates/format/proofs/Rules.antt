@@ -34,18 +34,14 @@ power-true p f =
 pub head-facts : (h : Head) → headOk h ≡ true → HeadFacts h
 unfolding headOk
 head-facts h e =
-    let g = both-true _ _ e in
-    let f = both-true _ _ (g .0) in
+    let f = both-true _ _ e in
     let s = both-true _ _ (f .0) in
-    let w = both-true _ _ (s .0) in
-    let j = both-true _ _ (w .0) in
+    let j = both-true _ _ (s .0) in
     let p = both-true _ _ (j .0) in
     record {
       count = leb-true _ _ (p .0);
       power = power-fact (h .power) (p .1);
       jumps = leb-true _ _ (j .1);
-      width = leb-true _ _ (w .1);
-      step = leb-true _ _ (s .1);
-      ids = leb-true _ _ (f .1);
-      values = eqb-true _ _ (g .1);
+      ids = leb-true _ _ (s .1);
+      fields = f .1;
     }

@@ -2,14 +2,14 @@
 -- end block, are what every loop over blocks keeps. Assumes nothing.
 use mathlib.Core.Path.{_≡_, sym, ap, _∙_}
 use mathlib.Core.List.{List, [], _∷_, _++_, append-assoc}
-use Prim.Native.Nat.{ℕ, _+_, _≤_}
+use Prim.Native.Nat.{ℕ, suc, _+_, _-_, _*_, _<_, _≤_}
 use native.Mathlib.Omega.{arith}
 use lib.ListN.{length, take, drop, length-append, length-drop}
 use lib.Seq.{drop-at, drop-drop}
 use Rattle.format.specs.Limits.{blockPlaces, endNumber}
 use Rattle.format.specs.Bytes.{fromLow, fromDigits, bytesOf, lowAt}
 use Rattle.format.specs.Ids.{Run, blockBytes, blockOf, blockData, endBlock}
-use Rattle.format.specs.IdsRead.{placesIn}
+use Rattle.format.specs.IdsRead.{placesIn, shorts}
 use Rattle.format.proofs.Section.{length-blockOf, length-blocks}
 use Rattle.format.proofs.Blocks.{the-number, the-count, the-data, count-fits, places-back}
 use Rattle.format.specs.Runs.{totalBytes, Fine, AllFine}
@@ -42,6 +42,16 @@ module _ (s : List ℕ) (at p : ℕ) (g : Run) (rest : List ℕ) (hp : p ≤ 16)
 pub end-read : (s : List ℕ) (at : ℕ) (rest : List ℕ) → drop at s ≡ endBlock ++ rest → lowAt 2 s at ≡ endNumber
 unfolding lowAt endBlock fromDigits
 end-read s at rest here = ap (λ (l : List ℕ). fromLow (take 2 l)) here
+
+-- ---- the entries of a sparse block, one after the other
+
+pub short-next : (s : List ℕ) (t c i : ℕ) → i < c
+    → shorts (c - i) (drop (t + 2 * i) s) ≡ lowAt 2 s (t + 2 * i) ∷ shorts (c - (i + 1)) (drop (t + 2 * (i + 1)) s)
+unfolding shorts lowAt
+short-next s t c i h =
+    let e : c - i ≡ suc (c - (i + 1)) = omega arith in
+    let f : t + 2 * i + 2 ≡ t + 2 * (i + 1) = omega arith in
+    rw (e, drop-drop 2 (t + 2 * i) s, f)
 
 -- ---- blocks, up to the end block
 

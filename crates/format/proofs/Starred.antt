@@ -4,36 +4,36 @@ use mathlib.Core.List.{[], _∷_, _++_}
 use Prim.Native.Nat.{ℕ, _^_, _-_}
 use lib.ListN.{length, take, replicate}
 use lib.IntN.{pos, negsuc}
-use Rattle.format.specs.Refusals.{done, refused, andThen, need, needNone, SHORT, NUMBER, ORDER, RANGE}
-use Rattle.format.specs.Bytes.{bytesOf, countFrom, digits}
-use Rattle.format.specs.HeaderNumbers.{groups, number, above, readGroups, readNumber, zigzag}
-use Rattle.format.specs.Bits.{bitOf, gather, tabulate, packed}
-use Rattle.format.specs.Ids.{push, runs, kindOf, byKind, rankBytes, dataBytes, blockBytes, bitmap, countBelow, rankTable, blockData, blockOf, endBlock, jumpsFrom, notTwo, jumps, entryBytes, blocks, idSection}
-use Rattle.format.specs.Values.{leastOf, mostOf, smallest, greatest, spread, gcdIn, gcd, gcdOf, divisor, bitsIn, bitLength, width, stored, valueSection}
-use Rattle.format.specs.Column.{headOf, headNumbers, column}
-use Rattle.format.specs.Writer.{notAbove, orderFault, rangeFault, write}
-use Rattle.format.specs.Opening.{gotAt, numberAt, openColumn}
+use Rattle.format.specs.Refusals.{done, refused, SHORT, NUMBER, ORDER, RANGE}
+use Rattle.format.specs.HeaderNumbers.{number, zigzag}
+use Rattle.format.specs.Bits.{packed}
+use Rattle.format.specs.Ids.{rankTable}
+use Rattle.format.specs.Values.{spread, divisor, width}
+use Rattle.format.specs.Editions.{plain, editions}
+use Rattle.format.specs.Column.{column}
+use Rattle.format.specs.Writer.{write}
 use Rattle.format.specs.Check.{check}
+use Rattle.format.proofs.Computing.{computing}
 
 pub record Starred : Type 0 where
   -- ids 0, 2, 7; values 150, 140, 135; p 9. Whole column, 27 bytes: 01 03 09 10 00 02 8E 02 05 01 00 00 02 00 00 00 02 00 07 00
   -- FF 7F 00 00 FF FF D0
-  pub three : column 9 (0 ∷ 2 ∷ 7 ∷ []) (pos 150 ∷ pos 140 ∷ pos 135 ∷ [])
+  pub three : column plain 9 (0 ∷ 2 ∷ 7 ∷ []) (pos 150 ∷ pos 140 ∷ pos 135 ∷ [])
       ≡ 0x01 ∷ 0x03 ∷ 0x09 ∷ 0x10 ∷ 0x00 ∷ 0x02 ∷ 0x8E ∷ 0x02 ∷ 0x05 ∷ 0x01 ∷ 0x00 ∷ 0x00 ∷ 0x02 ∷ 0x00 ∷ 0x00 ∷ 0x00 ∷ 0x02
       ∷ 0x00 ∷ 0x07 ∷ 0x00 ∷ 0xFF ∷ 0x7F ∷ 0x00 ∷ 0x00 ∷ 0xFF ∷ 0xFF ∷ 0xD0 ∷ []
-  pub three-bytes : length (column 9 (0 ∷ 2 ∷ 7 ∷ []) (pos 150 ∷ pos 140 ∷ pos 135 ∷ [])) ≡ 27
+  pub three-bytes : length (column plain 9 (0 ∷ 2 ∷ 7 ∷ []) (pos 150 ∷ pos 140 ∷ pos 135 ∷ [])) ≡ 27
   -- no pairs, p 9, 23 bytes: 01 00 09 0E 01 00 00 01 00 FF 7F 00 00 FF FF, then eight 00
-  pub empty : column 9 [] []
+  pub empty : column plain 9 [] []
       ≡ (0x01 ∷ 0x00 ∷ 0x09 ∷ 0x0E ∷ 0x01 ∷ 0x00 ∷ 0x00 ∷ 0x01 ∷ 0x00 ∷ 0xFF ∷ 0x7F ∷ 0x00 ∷ 0x00 ∷ 0xFF ∷ 0xFF ∷ [])
       ++ replicate 8 0
-  pub empty-bytes : length (column 9 [] []) ≡ 23
+  pub empty-bytes : length (column plain 9 [] []) ≡ 23
   -- id 65536, value -1, p 0, 45 bytes: 01 01 00 24 03 00 01 01 00 01 00 00 00 00 00 FF 7F 00 00 FF FF, sixteen 00, 01 00 00 00 06
   -- 00 00 00
-  pub second : column 0 (65536 ∷ []) (negsuc 0 ∷ [])
+  pub second : column plain 0 (65536 ∷ []) (negsuc 0 ∷ [])
       ≡ (0x01 ∷ 0x01 ∷ 0x00 ∷ 0x24 ∷ 0x03 ∷ 0x00 ∷ 0x01 ∷ 0x01 ∷ 0x00 ∷ 0x01 ∷ 0x00 ∷ 0x00 ∷ 0x00 ∷ 0x00 ∷ 0x00 ∷ 0xFF ∷ 0x7F
       ∷ 0x00 ∷ 0x00 ∷ 0xFF ∷ 0xFF ∷ [])
       ++ replicate 16 0 ++ (0x01 ∷ 0x00 ∷ 0x00 ∷ 0x00 ∷ 0x06 ∷ 0x00 ∷ 0x00 ∷ 0x00 ∷ [])
-  pub second-bytes : length (column 0 (65536 ∷ []) (negsuc 0 ∷ [])) ≡ 45
+  pub second-bytes : length (column plain 0 (65536 ∷ []) (negsuc 0 ∷ [])) ≡ 45
   -- stored numbers 1, 1, 1, 0, 2, 2, 0, 0 at width 2: 54 A0 (001)
   pub pack : packed 2 (1 ∷ 1 ∷ 1 ∷ 0 ∷ 2 ∷ 2 ∷ 0 ∷ 0 ∷ []) ≡ 0x54 ∷ 0xA0 ∷ []
   -- differences 15 with g 5: w 2 (004)
@@ -49,18 +49,18 @@ pub record Starred : Type 0 where
   -- strides holding 5, 1 and 2 ones: the first three rank entries are 00 00 00 05 00 06
   pub ranks : take 6 (rankTable 9 (0 ∷ 1 ∷ 2 ∷ 3 ∷ 4 ∷ 512 ∷ 1024 ∷ 1025 ∷ [])) ≡ 0x00 ∷ 0x00 ∷ 0x00 ∷ 0x05 ∷ 0x00 ∷ 0x06 ∷ []
   -- header number 80 00: NUMBER
-  pub not-minimal : check (0x80 ∷ 0x00 ∷ []) ≡ refused NUMBER 0
+  pub not-minimal : check editions (0x80 ∷ 0x00 ∷ []) ≡ refused NUMBER 0
   -- 80 alone: SHORT
-  pub cut : check (0x80 ∷ []) ≡ refused SHORT 0
+  pub cut : check editions (0x80 ∷ []) ≡ refused SHORT 0
   -- ids 4, 4: ORDER, index 1
   pub order : (room : ℕ) → write 9 (4 ∷ 4 ∷ []) (pos 0 ∷ pos 0 ∷ []) room ≡ refused ORDER 1
   -- id 2147352576 alone: RANGE, index 0
   pub range : (room : ℕ) → write 9 (2147352576 ∷ []) (pos 0 ∷ []) room ≡ refused RANGE 0
   -- 2147352575 is taken: its column has 32767 jump entries
-  pub taken : write 9 (2147352575 ∷ []) (pos 0 ∷ []) 262161 ≡ done (column 9 (2147352575 ∷ []) (pos 0 ∷ []))
+  pub taken : write 9 (2147352575 ∷ []) (pos 0 ∷ []) 262161 ≡ done (column plain 9 (2147352575 ∷ []) (pos 0 ∷ []))
 
 pub starred : Starred
-unfolding andThen need needNone bytesOf countFrom digits groups number above readGroups readNumber bitOf gather tabulate packed push runs kindOf byKind rankBytes dataBytes blockBytes bitmap countBelow rankTable blockData blockOf endBlock jumpsFrom notTwo jumps entryBytes blocks idSection leastOf mostOf smallest greatest spread gcdIn gcd gcdOf divisor bitsIn bitLength width stored valueSection headOf headNumbers column notAbove orderFault rangeFault write gotAt numberAt openColumn check
+unfolding computing
 starred =
     record {
       three = refl;

@@ -48,9 +48,7 @@ module _ {A : Type 0} (d : List A) (at : ℕ) (whole l : List A) (i : ℕ) (rest
   pub part-more : (m : List A) (j : ℕ) (xs more : List A) → rest ≡ xs ++ more → m ≡ sets l i xs → j ≡ i + length xs → Fill d at whole m j more
   part-more m j xs more e a b =
       record {
-        same =
-            ap (λ (k : ℕ). sets m k more) b ∙ ap (λ (k : List A). sets k (i + length xs) more) a
-            ∙ sym (sets-append l i xs more) ∙ ap (sets l i) (sym e) ∙ f .same;
+        same = cc (sets-append l i xs more);
         next = omega (arith, f .next, ap length e, length-append xs more);
         kept = ap length a ∙ length-sets l i xs ∙ f .kept;
       }

@@ -4,7 +4,7 @@ use mathlib.Core.Bool.{Bool, true, false, _&&_, _||_}
 use mathlib.Core.Option.{Option, none, some}
 use Prim.Native.Nat.{ℕ}
 use native.Mathlib.Omega.{arith}
-use Rattle.format.specs.Refusals.{Outcome, done, refused, andThen, need, needNone}
+use Rattle.format.specs.Refusals.{Outcome, done, refused, andThen, need, given, needNone}
 
 -- ---- steps that may refuse
 
@@ -22,6 +22,11 @@ module _ {A : Type 0} where
   unfolding needNone
   needed-none none why next a e = (refl, e)
   needed-none (some i) why next a e = absurd (let z : _≡_ {A = ℕ} 0 1 = cc in omega arith)
+
+pub given-some : {A : Type 0} (o : Option A) (why w : ℕ) (a : A) → given o why w ≡ done a → o ≡ some a
+unfolding given
+given-some (some x) why w a e = cc
+given-some none why w a e = absurd (let z : _≡_ {A = ℕ} 0 1 = cc in omega arith)
 
 pub passed : {A B : Type 0} (o : Outcome A) (f : A → Outcome B) (b : B) → andThen o f ≡ done b → (a : A) × (o ≡ done a) × (f a ≡ done b)
 unfolding andThen

@@ -1,18 +1,19 @@
 -- The stored numbers stand for the values. Assumes nothing.
 use mathlib.Core.Path.{_≡_, refl, sym, ap, ap₂, _∙_, subst}
-use mathlib.Core.Bool.{Bool, true, false, cond, not}
+use mathlib.Core.Bool.{cond, not}
 use mathlib.Core.List.{List, [], _∷_, map}
 use Prim.Native.Nat.{ℕ, zero, suc, _+_, _-_, _/_, _^_, _<_, _≤_, _∣_, zero-le, suc-le-suc}
-use native.Mathlib.Nat.{dvd-zero, dvd-add, dvd-sub, one-dvd, mul-div-cancel', le-trans, pow-zero, pow-succ', add-comm, lt-of-le-of-lt}
-use native.Mathlib.Nat.{le-div-iff-mul-le, div-mul-le-self}
+use native.Mathlib.Nat.{dvd-zero, dvd-add, dvd-sub, one-dvd, mul-div-cancel', le-trans, pow-zero, pow-succ', add-comm, lt-of-le-of-lt, le-div-iff-mul-le}
+use native.Mathlib.Nat.{div-mul-le-self}
 use native.Mathlib.Omega.{arith}
 use lib.Dec.{T, eqb, leb→le, le→leb, nleb→lt, lit<}
 use lib.IntN.{ℤ, pos, negsuc, negℤ, natAbs, subℕ, _+ℤ_, _-ℤ_, +ℤ-comm, -ℤ-+ℤ-cancel, +ℤ-assoc, +ℤ-invl, +ℤ-idl}
+use lib.ListN.{length, getD, length-map}
 use lib.Signed.{leZ, nonNeg, pos-natAbs}
 use borrow.Author.Tests.{lt-ltb, le-ltb}
 use Rattle.format.specs.Values.{leastOf, mostOf, smallest, greatest, over, gcdOf, divisor, stored, valueAt, spread, bitsIn, bitLength, width}
 use Rattle.format.specs.Pairs.{Below, Each}
-use Rattle.format.proofs.Cases.{below-or}
+use Rattle.format.proofs.Cases.{below-or, true-or}
 use Rattle.format.proofs.Gcd.{gcdOf-each}
 
 -- ---- each of a list
@@ -20,6 +21,11 @@ use Rattle.format.proofs.Gcd.{gcdOf-each}
 pub each-map : {P Q : ℤ → Type 0} → ((v : ℤ) → P v → Q v) → (vs : List ℤ) → Each P vs → Each Q vs
 each-map f [] t = tt
 each-map f (v ∷ vs) t = (f v (t .0), each-map f vs (t .1))
+
+pub each-at : (P : ℤ → Type 0) (vs : List ℤ) (i : ℕ) (d : ℤ) → Each P vs → i < length vs → P (getD vs i d)
+each-at P [] i d t k = absurd (omega arith)
+each-at P (v ∷ vs) zero d t k = t .0
+each-at P (v ∷ vs) (suc i) d t k = each-at P vs i d (t .1) (omega arith)
 
 map-same : (f : ℤ → ℤ) (vs : List ℤ) → Each (λ v. f v ≡ v) vs → map f vs ≡ vs
 map-same f [] t = refl
@@ -53,19 +59,11 @@ module _ (m v : ℤ) where
 
   lesser-left : T (leZ lesser m)
   unfolding lesser
-  lesser-left = go (leZ m v) (λ t. leZ-flip m v t)
-    where
-      go : (q : Bool) → (T (not q) → T (leZ v m)) → T (leZ (cond q m v) m)
-      go true f = leZ-refl m
-      go false f = f tt
+  lesser-left = true-or (leZ m v) (λ e. rw e (leZ-refl m)) (λ e. rw e (leZ-flip m v (rw e tt)))
 
   lesser-right : T (leZ lesser v)
   unfolding lesser
-  lesser-right = go (leZ m v) (λ t. t)
-    where
-      go : (q : Bool) → (T q → T (leZ m v)) → T (leZ (cond q m v) v)
-      go true f = f tt
-      go false f = leZ-refl v
+  lesser-right = true-or (leZ m v) (λ e. rw e (rw e tt)) (λ e. rw e (leZ-refl v))
 
 pub least-first : (m : ℤ) (vs : List ℤ) → T (leZ (leastOf m vs) m)
 unfolding leastOf lesser
@@ -82,20 +80,12 @@ least-each m (v ∷ vs) =
 pub least-has : (P : ℤ → Type 0) (m : ℤ) (vs : List ℤ) → P m → Each P vs → P (leastOf m vs)
 unfolding leastOf
 least-has P m [] h t = h
-least-has P m (v ∷ vs) h t = least-has P (cond (leZ m v) m v) vs (go (leZ m v)) (t .1)
-  where
-    go : (q : Bool) → P (cond q m v)
-    go true = h
-    go false = t .0
+least-has P m (v ∷ vs) h t = least-has P (cond (leZ m v) m v) vs (true-or (leZ m v) (λ e. rw e h) (λ e. rw e (t .0))) (t .1)
 
 pub most-has : (P : ℤ → Type 0) (m : ℤ) (vs : List ℤ) → P m → Each P vs → P (mostOf m vs)
 unfolding mostOf
 most-has P m [] h t = h
-most-has P m (v ∷ vs) h t = most-has P (cond (leZ m v) v m) vs (go (leZ m v)) (t .1)
-  where
-    go : (q : Bool) → P (cond q v m)
-    go true = t .0
-    go false = h
+most-has P m (v ∷ vs) h t = most-has P (cond (leZ m v) v m) vs (true-or (leZ m v) (λ e. rw e (t .0)) (λ e. rw e h)) (t .1)
 
 -- ---- the difference
 
@@ -118,20 +108,16 @@ over-back m v h = ap (λ (z : ℤ). m +ℤ z) (pos-natAbs (v -ℤ m) (diff-nonNe
 dvd-subℕ : (d a b : ℕ) → d ∣ a → d ∣ b → d ∣ natAbs (subℕ a b)
 dvd-subℕ d a b ha hb =
     below-or a b
-    (λ h. rw (lt-ltb a b h) (subst (λ (n : ℕ). d ∣ n) (the-gap h) (dvd-sub d hb ha)))
+    (λ h. let gap : b - a ≡ suc (b - suc a) = omega arith in rw (lt-ltb a b h) (subst (λ (n : ℕ). d ∣ n) gap (dvd-sub d hb ha)))
     (λ h. rw (le-ltb a b h) (dvd-sub d ha hb))
-  where
-    the-gap : a < b → b - a ≡ suc (b - suc a)
-    the-gap h = omega arith
 
 pub dvd-over : (d : ℕ) (m v : ℤ) → d ∣ natAbs m → d ∣ natAbs v → d ∣ over m v
 dvd-over d (pos zero) (pos b) hm hv = dvd-add d hv (dvd-zero d)
 dvd-over d (pos (suc a)) (pos b) hm hv = dvd-subℕ d b (suc a) hv hm
 dvd-over d (pos zero) (negsuc b) hm hv = dvd-subℕ d zero (suc b) hm hv
-dvd-over d (pos (suc a)) (negsuc b) hm hv = subst (λ (n : ℕ). d ∣ n) (the-sum) (dvd-add d hv hm)
-  where
-    the-sum : suc b + suc a ≡ suc (suc (b + a))
-    the-sum = omega arith
+dvd-over d (pos (suc a)) (negsuc b) hm hv =
+    let sum : suc b + suc a ≡ suc (suc (b + a)) = omega arith in
+    subst (λ (n : ℕ). d ∣ n) sum (dvd-add d hv hm)
 dvd-over d (negsuc a) (pos b) hm hv = dvd-add d hv hm
 dvd-over d (negsuc a) (negsuc b) hm hv = dvd-subℕ d (suc a) (suc b) hm hv
 
@@ -152,13 +138,11 @@ smallest-has P v vs t = least-has P v vs (t .0) (t .1)
 
 divides-one : (v : ℤ) (vs : List ℤ) (u : ℤ) → gcdOf 0 (v ∷ vs) ∣ natAbs u → divisor (v ∷ vs) ∣ over (smallest (v ∷ vs)) u
 unfolding divisor
-divides-one v vs u h = go (eqb (spread (v ∷ vs)) 0)
-  where
-    go : (q : Bool) → cond q 1 (gcdOf 0 (v ∷ vs)) ∣ over (smallest (v ∷ vs)) u
-    go true = one-dvd (over (smallest (v ∷ vs)) u)
-    go false =
-        dvd-over (gcdOf 0 (v ∷ vs)) (smallest (v ∷ vs)) u
-        (smallest-has (λ x. gcdOf 0 (v ∷ vs) ∣ natAbs x) v vs (gcdOf-each 0 (v ∷ vs))) h
+divides-one v vs u h =
+    let d : ℕ = gcdOf 0 (v ∷ vs) in
+    true-or (eqb (spread (v ∷ vs)) 0)
+    (λ e. rw e (one-dvd (over (smallest (v ∷ vs)) u)))
+    (λ e. rw e (dvd-over d (smallest (v ∷ vs)) u (smallest-has (λ x. d ∣ natAbs x) v vs (gcdOf-each 0 (v ∷ vs))) h))
 
 -- the divisor divides each difference from the smallest
 pub divides-each : (vs : List ℤ) → Each (λ v. divisor vs ∣ over (smallest vs) v) vs
@@ -220,19 +204,11 @@ module _ (m v : ℤ) where
 
   greater-left : T (leZ m greater)
   unfolding greater
-  greater-left = go (leZ m v) (λ t. t)
-    where
-      go : (q : Bool) → (T q → T (leZ m v)) → T (leZ m (cond q v m))
-      go true f = f tt
-      go false f = leZ-refl m
+  greater-left = true-or (leZ m v) (λ e. rw e (rw e tt)) (λ e. rw e (leZ-refl m))
 
   greater-right : T (leZ v greater)
   unfolding greater
-  greater-right = go (leZ m v) (λ t. leZ-flip m v t)
-    where
-      go : (q : Bool) → (T (not q) → T (leZ v m)) → T (leZ v (cond q v m))
-      go true f = leZ-refl v
-      go false f = f tt
+  greater-right = true-or (leZ m v) (λ e. rw e (leZ-refl v)) (λ e. rw e (leZ-flip m v (rw e tt)))
 
 most-first : (m : ℤ) (vs : List ℤ) → T (leZ m (mostOf m vs))
 unfolding mostOf greater
@@ -256,18 +232,21 @@ over-le a c b h k = omega (arith, over-add a b c h k)
 -- no value is further from the smallest than the greatest
 pub spread-each : (vs : List ℤ) → Each (λ v. over (smallest vs) v ≤ spread vs) vs
 unfolding spread
-spread-each vs =
-    each-two (over-le (smallest vs) (greatest vs)) vs (smallest-each vs) (greatest-each vs)
+spread-each vs = each-two (over-le (smallest vs) (greatest vs)) vs (smallest-each vs) (greatest-each vs)
 
 below-map : (b : ℕ) (f : ℤ → ℕ) (vs : List ℤ) → Each (λ v. f v < b) vs → Below b (map f vs)
 below-map b f [] t = tt
 below-map b f (v ∷ vs) t = (t .0, below-map b f vs (t .1))
+
+pub length-stored : (vs : List ℤ) → length (stored vs) ≡ length vs
+unfolding stored
+length-stored vs = length-map vs _
+
+pub div-le-div : {a b g : ℕ} → a ≤ b → zero < g → a / g ≤ b / g
+div-le-div {a} {b} {g} k j = le-div-iff-mul-le j .1 (le-trans (div-mul-le-self a g) k)
 
 pub stored-below : (vs : List ℤ) → zero < divisor vs → Below (2 ^ width vs) (stored vs)
 unfolding stored width
 stored-below vs h =
     below-map (2 ^ bitLength (spread vs / divisor vs)) (λ v. over (smallest vs) v / divisor vs) vs
     (each-map (λ v t. lt-of-le-of-lt (div-le-div t h) (bit-length (spread vs / divisor vs))) vs (spread-each vs))
-  where
-    div-le-div : {a b g : ℕ} → a ≤ b → zero < g → a / g ≤ b / g
-    div-le-div {a} {b} {g} k j = le-div-iff-mul-le j .1 (le-trans (div-mul-le-self a g) k)

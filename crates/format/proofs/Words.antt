@@ -2,6 +2,7 @@
 -- at its ordinal. Assumes nothing.
 use mathlib.Core.Path.{_≡_, refl, subst}
 use mathlib.Core.Bool.{Bool, true, false, cond, not, _&&_}
+use mathlib.Core.Option.{Option, none, some}
 use mathlib.Core.List.{List, [], _∷_}
 use Prim.Native.Nat.{ℕ, zero, suc, _+_, _-_, _*_, _/_, _%_, _^_, _<_, _≤_, zero-le}
 use native.Mathlib.Nat.{mod-lt}
@@ -14,16 +15,17 @@ use borrow.Author.Tests.{eq-eqb, ne-eqb, lt-ltb, le-ltb}
 use Rattle.format.specs.Limits.{Power, blockPlaces}
 use Rattle.format.specs.Refusals.{Outcome, done, refused, andThen, need, BROKEN}
 use Rattle.format.specs.Bytes.{lowAt}
+use Rattle.format.specs.Editions.{Edition}
 use Rattle.format.specs.Ids.{Entry, Kind, sparse, dense, all, kindOf, byKind, rankBytes, blockBytes, countBelow}
 use Rattle.format.specs.IdsRead.{shorts}
 use Rattle.format.specs.Pairs.{Asc}
 use Rattle.format.specs.Opening.{Opened, openColumn, idPart}
-use Rattle.format.specs.LookUp.{Look, absent, Place, inside, nowhere, broken, scan, onesFrom, strideLong, strideRank, denseAt, placeAt}
+use Rattle.format.specs.LookUp.{Look, absent, Place, inside, nowhere, broken, Rule, scanned, inSparse, onesFrom, strideLong, strideRank, denseAt, placeAt}
 use Rattle.format.specs.LookUp.{entriesAt, entryAt, answer, fromEntry, steps, lookUp, lookUpIn}
 use Rattle.format.specs.Walk.{inBlock, listed, words, strideWords, FewWords}
-use Rattle.format.proofs.Cases.{below-or, equal-or}
+use Rattle.format.proofs.Cases.{below-or, equal-or, true-or}
 use Rattle.format.proofs.Place.{listed-higher, count-higher, stride-words}
-use Rattle.format.proofs.Tests.{needed, or-right}
+use Rattle.format.proofs.Tests.{needed, passed, or-right}
 use Rattle.format.proofs.Rules.{head-facts}
 use Rattle.format.proofs.Open.{opened-ok}
 
@@ -32,19 +34,11 @@ use Rattle.format.proofs.Open.{opened-ok}
 -- the words from a stride's first to that of place r
 stride-le : (p r : ℕ) → r < 65536 → cond (eqb p 0) (r / 64 + 1) (r / 64 % 2 ^ (p - 6) + 1) ≤ strideWords p
 unfolding strideWords
-stride-le p r h = go (eqb p 0)
-  where
-    go : (t : Bool) → cond t (r / 64 + 1) (r / 64 % 2 ^ (p - 6) + 1) ≤ cond t 1024 (2 ^ (p - 6))
-    go true = omega arith
-    go false = omega (arith, mod-lt (r / 64) (pow-pos (p - 6)))
+stride-le p r h = true-or (eqb p 0) (λ e. rw e (omega arith)) (λ e. rw e (omega (arith, mod-lt (r / 64) (pow-pos (p - 6)))))
 
 one-le : (p : ℕ) → 1 ≤ strideWords p
 unfolding strideWords
-one-le p = go (eqb p 0)
-  where
-    go : (t : Bool) → 1 ≤ cond t 1024 (2 ^ (p - 6))
-    go true = omega arith
-    go false = pow-pos (p - 6)
+one-le p = true-or (eqb p 0) (λ e. rw e (omega arith)) (λ e. rw e (pow-pos (p - 6)))
 
 pub words-le : (p : ℕ) (ids : List ℕ) (id : ℕ) → words p ids id ≤ strideWords p
 unfolding words byKind
@@ -86,15 +80,10 @@ Few m (inside i w) = w ≤ m
 Few m (nowhere w) = w ≤ 1
 Few m broken = Unit {0}
 
-scan-few : (m r i : ℕ) (xs : List ℕ) → Few m (scan r i xs)
-unfolding scan
-scan-few m r i [] = zero-le
-scan-few m r i (x ∷ xs) = go (ltb x r) (eqb x r) (scan-few m r (suc i) xs)
-  where
-    go : (s t : Bool) → Few m (scan r (suc i) xs) → Few m (cond s (scan r (suc i) xs) (cond t (inside i 0) (nowhere 0)))
-    go true t ih = ih
-    go false true ih = zero-le
-    go false false ih = zero-le
+sparse-few : (m : ℕ) (o : Option ℕ) → Few m (inSparse o)
+unfolding inSparse
+sparse-few m (some i) = zero-le
+sparse-few m none = zero-le
 
 dense-few : (p : ℕ) (s : List ℕ) (t c r : ℕ) → ((p ≡ 0 → ⊥) → 6 ≤ p) → r < 65536 → Few (strideWords p) (denseAt p s t c r)
 unfolding denseAt
@@ -110,18 +99,18 @@ dense-few p s t c r hp hr =
     go false true i = rw (stride-words p r hp) (stride-le p r hr)
     go false false i = tt
 
-place-few : (p : ℕ) (s : List ℕ) (t c r : ℕ) → ((p ≡ 0 → ⊥) → 6 ≤ p) → r < 65536 → Few (strideWords p) (placeAt p s t c r)
+place-few : (rule : Rule) (p : ℕ) (s : List ℕ) (t c r : ℕ) → ((p ≡ 0 → ⊥) → 6 ≤ p) → r < 65536 → Few (strideWords p) (placeAt rule p s t c r)
 unfolding placeAt byKind
-place-few p s t c r hp hr = go (kindOf c)
+place-few rule p s t c r hp hr = go (kindOf c)
   where
-    go : (k : Kind) → Few (strideWords p) (byKind k (scan r 0 (shorts c (drop t s))) (denseAt p s t c r) (inside r 0))
-    go sparse = scan-few (strideWords p) r 0 (shorts c (drop t s))
+    go : (k : Kind) → Few (strideWords p) (byKind k (inSparse (rule r (shorts c (drop t s)))) (denseAt p s t c r) (inside r 0))
+    go sparse = sparse-few (strideWords p) (rule r (shorts c (drop t s)))
     go dense = dense-few p s t c r hp hr
     go all = zero-le
 
 answer-few : (bytes : List ℕ) (c : Opened) (p o : ℕ) (q : Place) (l : Look) → Few (strideWords p) q → answer bytes c o q ≡ done l → FewWords p (done l)
 unfolding answer
-answer-few bytes c p o (inside i w) l f e = subst (FewWords p) (needed _ _ _ _ l e .1) f
+answer-few bytes c p o (inside i w) l f e = subst (FewWords p) (passed _ _ l e .2) f
 answer-few bytes c p o (nowhere w) l f e = subst (FewWords p) e f
 answer-few bytes c p o broken l f e = absurd (let z : _≡_ {A = ℕ} 0 1 = cc in omega arith)
 
@@ -132,10 +121,10 @@ module _ (bytes : List ℕ) (col : Opened) (o p : ℕ) (q : Place) (l : Look) wh
   rest-few true fits f e = subst (FewWords p) e zero-le
   rest-few false fits f e = answer-few bytes col p o q l f (needed fits BROKEN 0 (answer bytes col o q) l e .1)
 
-steps-few : (bytes : List ℕ) (col : Opened) (id : ℕ) (l : Look) → Power (col .head .power) → steps bytes col id ≡ done l
+steps-few : (rule : Rule) (bytes : List ℕ) (col : Opened) (id : ℕ) (l : Look) → Power (col .head .power) → steps rule bytes col id ≡ done l
     → FewWords (col .head .power) (done l)
 unfolding steps fromEntry
-steps-few bytes col id l ok e =
+steps-few rule bytes col id l ok e =
     let p : ℕ = col .head .power in
     let s : List ℕ = idPart bytes col in
     let at : Entry = entryAt s (entriesAt (col .head)) (col .head .jumpCount) (id / blockPlaces) in
@@ -143,34 +132,31 @@ steps-few bytes col id l ok e =
     let c : ℕ = lowAt 2 s (at .1 + 2) + 1 in
     let s2 = needed _ _ _ _ l e in
     let s3 = needed _ _ _ _ l (s2 .1) in
-    rest-few bytes col (at .0) p (placeAt p s (at .1 + 4) c (id % blockPlaces)) l (not (eqb k (id / blockPlaces)))
+    rest-few bytes col (at .0) p (placeAt rule p s (at .1 + 4) c (id % blockPlaces)) l (not (eqb k (id / blockPlaces)))
     (leb (at .1 + blockBytes p c) (entriesAt (col .head)) && leb (at .0 + c) (col .head .count))
-    (place-few p s (at .1 + 4) c (id % blockPlaces) (λ z. omega (arith, ok .least z)) (omega arith)) (s3 .1)
+    (place-few rule p s (at .1 + 4) c (id % blockPlaces) (λ z. omega (arith, ok .least z)) (omega arith)) (s3 .1)
 
-pub few-words : (bytes : List ℕ) (c : Opened) (id : ℕ) (l : Look) → openColumn bytes ≡ done c → lookUp bytes id ≡ done l
+pub few-words : (known : List Edition) (bytes : List ℕ) (c : Opened) (id : ℕ) (l : Look) → openColumn known bytes ≡ done c → lookUp known bytes id ≡ done l
     → FewWords (c .head .power) (done l)
 unfolding lookUp andThen
-few-words bytes c id l o e =
-    steps-few bytes c id l (head-facts (c .head) (opened-ok bytes c o .0) .power) (rw o at (needed _ _ _ _ l e .1))
+few-words known bytes c id l o e =
+    steps-few scanned bytes c id l (head-facts (c .head) (opened-ok known bytes c o .rules) .power) (rw o at (needed _ _ _ _ l e .1))
 
 few-words-in : (bytes : List ℕ) (c : Opened) (id : ℕ) (l : Look) → lookUpIn bytes c id ≡ done l → FewWords (c .head .power) (done l)
 unfolding lookUpIn
 few-words-in bytes c id l e =
     let s1 = needed _ _ _ _ l e in
     let s2 = needed _ _ _ _ l (s1 .1) in
-    steps-few bytes c id l (head-facts (c .head) (s2 .0) .power) (needed _ _ _ _ l (s2 .1) .1)
+    steps-few scanned bytes c id l (head-facts (c .head) (s2 .0) .power) (needed _ _ _ _ l (s2 .1) .1)
 
 -- whatever the answer
-pub look-up-few : (bytes : List ℕ) (c : Opened) (id : ℕ) → openColumn bytes ≡ done c → FewWords (c .head .power) (lookUp bytes id)
-look-up-few bytes c id o = go (lookUp bytes id) refl
-  where
-    go : (r : Outcome Look) → lookUp bytes id ≡ r → FewWords (c .head .power) r
-    go (done l) e = few-words bytes c id l o e
-    go (refused why w) e = tt
+few-of : (p : ℕ) (r : Outcome Look) → ((l : Look) → r ≡ done l → FewWords p (done l)) → FewWords p r
+few-of p (done l) f = f l refl
+few-of p (refused why w) f = tt
+
+pub look-up-few : (known : List Edition) (bytes : List ℕ) (c : Opened) (id : ℕ) → openColumn known bytes ≡ done c
+    → FewWords (c .head .power) (lookUp known bytes id)
+look-up-few known bytes c id o = few-of (c .head .power) (lookUp known bytes id) (λ l. few-words known bytes c id l o)
 
 pub look-up-in-few : (bytes : List ℕ) (c : Opened) (id : ℕ) → FewWords (c .head .power) (lookUpIn bytes c id)
-look-up-in-few bytes c id = go (lookUpIn bytes c id) refl
-  where
-    go : (r : Outcome Look) → lookUpIn bytes c id ≡ r → FewWords (c .head .power) r
-    go (done l) e = few-words-in bytes c id l e
-    go (refused why w) e = tt
+look-up-in-few bytes c id = few-of (c .head .power) (lookUpIn bytes c id) (few-words-in bytes c id)

@@ -7,6 +7,8 @@ pub mod Bits
 pub mod Ids
 pub mod IdsRead
 pub mod Values
+pub mod Codec
+pub mod Editions
 pub mod Pairs
 pub mod Column
 pub mod Writer

@@ -3,16 +3,17 @@
 use Prim.Native.Nat.{ℕ, zero, suc, _+_, _-_, _*_, _/_, _%_, _^_, min}
 use mathlib.Core.Bool.{cond, not, _&&_, _||_}
 use mathlib.Core.List.{List, [], _∷_}
+use mathlib.Core.Option.{Option, none, some}
 use lib.ListN.{drop}
 use lib.Dec.{leb, ltb, eqb}
 use lib.Count.{onesIn}
 use lib.IntN.{ℤ}
 use Rattle.format.specs.Limits.{maxId, blockPlaces}
-use Rattle.format.specs.Refusals.{Outcome, done, refused, andThen, need, HEADER, LENGTH, ID, BROKEN}
+use Rattle.format.specs.Refusals.{Outcome, done, refused, andThen, need, given, HEADER, LENGTH, ID, BROKEN}
 use Rattle.format.specs.Bytes.{lowAt, highAt}
 use Rattle.format.specs.Ids.{Entry, kindOf, byKind, rankBytes, blockBytes}
 use Rattle.format.specs.IdsRead.{shorts}
-use Rattle.format.specs.Values.{fits64}
+use Rattle.format.specs.Editions.{Edition}
 use Rattle.format.specs.Column.{Head}
 use Rattle.format.specs.Opening.{Opened, openColumn, headOk, lengthOk, idPart, valueOf}
 
@@ -29,10 +30,23 @@ pub data Place : Type 0 where
   nowhere : ℕ → Place
   broken : Place
 
--- sparse: scan to the first entry that is r or above, from index i on
-unfoldable pub scan : ℕ → ℕ → List ℕ → Place
-scan r i [] = nowhere 0
-scan r i (x ∷ xs) = cond (ltb x r) (scan r (suc i) xs) (cond (eqb x r) (inside i 0) (nowhere 0))
+-- a sparse block: the index of r among its entries, or none
+abbrev pub Rule : Type 0
+Rule = ℕ → List ℕ → Option ℕ
+
+-- scan to the first entry that is r or above, from index i on
+unfoldable pub scan : ℕ → ℕ → List ℕ → Option ℕ
+scan r i [] = none
+scan r i (x ∷ xs) = cond (ltb x r) (scan r (suc i) xs) (cond (eqb x r) (some i) none)
+
+-- document 01's rule
+abbrev pub scanned : Rule
+scanned r xs = scan r 0 xs
+
+-- no rule counts words
+unfoldable pub inSparse : Option ℕ → Place
+inSparse (some i) = inside i 0
+inSparse none = nowhere 0
 
 -- the ones in k longs of the bitmap that starts at m, from long a on
 unfoldable pub onesFrom : List ℕ → ℕ → ℕ → ℕ → ℕ
@@ -55,9 +69,10 @@ denseAt p s t c r =
     let i : ℕ = strideRank p s t r + onesFrom s m (r / 64 - f) f + onesIn 64 (long % 2 ^ (r % 64)) in
     cond (eqb (long / 2 ^ (r % 64) % 2) 0) (nowhere 1) (cond (ltb i c) (inside i (r / 64 - f + 1)) broken)
 
-unfoldable pub placeAt : ℕ → List ℕ → ℕ → ℕ → ℕ → Place
-placeAt p s t c r =
-    byKind (kindOf c) (scan r 0 (shorts c (drop t s))) (denseAt p s t c r) (inside r 0)
+-- the place r in a block of c ids whose data start at t, by a rule for sparse blocks
+unfoldable pub placeAt : Rule → ℕ → List ℕ → ℕ → ℕ → ℕ → Place
+placeAt rule p s t c r =
+    byKind (kindOf c) (inSparse (rule r (shorts c (drop t s)))) (denseAt p s t c r) (inside r 0)
 
 -- ---- the steps
 
@@ -73,13 +88,13 @@ entryAt s a j b =
 -- step 7
 unfoldable pub answer : List ℕ → Opened → ℕ → Place → Outcome Look
 answer bytes c o (inside i w) =
-    need (fits64 (valueOf bytes c (o + i))) BROKEN 0 (done (found (o + i) (valueOf bytes c (o + i)) w))
+    andThen (given (valueOf bytes c (o + i)) BROKEN 0) (λ v. done (found (o + i) v w))
 answer bytes c o (nowhere w) = done (absent w)
 answer bytes c o broken = refused BROKEN 0
 
 -- steps 2 to 7, from an entry
-unfoldable pub fromEntry : List ℕ → Opened → ℕ → Entry → Outcome Look
-fromEntry bytes col id e =
+unfoldable pub fromEntry : Rule → List ℕ → Opened → ℕ → Entry → Outcome Look
+fromEntry rule bytes col id e =
     let h : Head = col .head in
     let s : List ℕ = idPart bytes col in
     let b : ℕ = id / blockPlaces in
@@ -89,18 +104,18 @@ fromEntry bytes col id e =
     (need (eqb (h .jumpCount) 0 || leb b k) BROKEN 0
     (cond (not (eqb k b)) (done (absent 0))
     (need (leb (e .1 + blockBytes (h .power) c) (entriesAt h) && leb (e .0 + c) (h .count)) BROKEN 0
-    (answer bytes col (e .0) (placeAt (h .power) s (e .1 + 4) c (id % blockPlaces))))))
+    (answer bytes col (e .0) (placeAt rule (h .power) s (e .1 + 4) c (id % blockPlaces))))))
 
 -- steps 1 to 7
-unfoldable pub steps : List ℕ → Opened → ℕ → Outcome Look
-steps bytes c id =
-    fromEntry bytes c id (entryAt (idPart bytes c) (entriesAt (c .head)) (c .head .jumpCount) (id / blockPlaces))
+unfoldable pub steps : Rule → List ℕ → Opened → ℕ → Outcome Look
+steps rule bytes c id =
+    fromEntry rule bytes c id (entryAt (idPart bytes c) (entriesAt (c .head)) (c .head .jumpCount) (id / blockPlaces))
 
 -- ---- the calls
 
 -- 14, then 7 to 11, then 15
-unfoldable pub lookUp : List ℕ → ℕ → Outcome Look
-lookUp bytes id = need (leb id maxId) ID 0 (andThen (openColumn bytes) (λ c. steps bytes c id))
+unfoldable pub lookUp : List Edition → List ℕ → ℕ → Outcome Look
+lookUp known bytes id = need (leb id maxId) ID 0 (andThen (openColumn known bytes) (λ c. steps scanned bytes c id))
 
 -- From a column that was opened before, or any numbers in its place: 14; 10 where they break a header rule; 11 where they do not
 -- fit these bytes; 15. (Not in document 01: docs/DECISIONS.md.)
@@ -109,4 +124,4 @@ lookUpIn bytes c id =
     need (leb id maxId) ID 0
     (need (headOk (c .head)) HEADER 0
     (need (lengthOk bytes c) LENGTH 0
-    (steps bytes c id)))
+    (steps scanned bytes c id)))

@@ -4,20 +4,18 @@ use mathlib.Core.Bool.{true}
 use mathlib.Core.List.{List}
 use Prim.Native.Nat.{ℕ, _+_, _*_, _≤_}
 use lib.ListN.{length}
-use Rattle.format.specs.Limits.{maxCount, maxJumps, maxWidth, Power}
-use Rattle.format.specs.Bits.{packedBytes}
+use Rattle.format.specs.Limits.{maxCount, maxJumps, Power}
+use Rattle.format.specs.Editions.{codec}
 use Rattle.format.specs.Column.{Head}
 use Rattle.format.specs.Opening.{headOk, Opened}
 
--- the header rules
+-- the header rules; those on w, smallest, g and V are the edition's
 pub record HeadFacts (h : Head) : Type 0 where
   pub count : h .count ≤ maxCount
   pub power : Power (h .power)
   pub jumps : h .jumpCount ≤ maxJumps
-  pub width : h .bits ≤ maxWidth
-  pub step : 1 ≤ h .step
   pub ids : 6 + 8 * h .jumpCount ≤ h .idBytes
-  pub values : h .valueBytes ≡ packedBytes (h .count) (h .bits)
+  pub fields : codec (h .edition) .fieldsOk (h .count) (h .fields) (h .valueBytes) ≡ true
 
 -- a column that its bytes were opened as
 pub record Sound (bytes : List ℕ) (c : Opened) : Type 0 where

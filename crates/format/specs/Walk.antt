@@ -17,7 +17,7 @@ use Rattle.format.specs.LookUp.{Look, found, absent}
 -- ---- the walk: it uses no jump entry and no rank, and counts no words
 
 pub data Seen : Type 0 where
-  seen : ℕ → ℤ → Seen
+  seen : ℕ → Option ℤ → Seen
   unseen : Seen
 
 -- the index of r in a list, i and on
@@ -49,7 +49,7 @@ walk bytes col id = walkFrom (suc (col .head .idBytes)) bytes col id 0 0
 
 -- a look-up's answer without its words
 unfoldable pub wordless : Look → Seen
-wordless (found o v w) = seen o v
+wordless (found o v w) = seen o (some v)
 wordless (absent w) = unseen
 
 -- ---- the words, for the list of accepted bytes

@@ -10,6 +10,7 @@ use lib.IntN.{ℤ}
 use Rattle.format.specs.Limits.{maxId, powerOk, startLimit}
 use Rattle.format.specs.Refusals.{Outcome, done, refused, need, needNone, LENGTHS, POWER, ORDER, RANGE, OFFSET, ROOM}
 use Rattle.format.specs.Ids.{blocks}
+use Rattle.format.specs.Editions.{Edition, plain}
 use Rattle.format.specs.Column.{column}
 
 -- the first index, i and on, at which an id is not above the one before, a
@@ -26,10 +27,10 @@ unfoldable pub rangeFault : ℕ → List ℕ → Option ℕ
 rangeFault i [] = none
 rangeFault i (x ∷ xs) = cond (leb x maxId) (rangeFault (suc i) xs) (some i)
 
--- the column, for an output of `room` bytes; the last start of a block is the end block's
-unfoldable pub write : ℕ → List ℕ → List ℤ → ℕ → Outcome (List ℕ)
-write p ids vs room =
-    let out : List ℕ = column p ids vs in
+-- the column of an edition, for an output of `room` bytes; the last start of a block is the end block's
+unfoldable pub writeAs : Edition → ℕ → List ℕ → List ℤ → ℕ → Outcome (List ℕ)
+writeAs ed p ids vs room =
+    let out : List ℕ = column ed p ids vs in
     need (eqb (length ids) (length vs)) LENGTHS 0
     (need (powerOk p) POWER 0
     (needNone (orderFault ids) ORDER
@@ -37,6 +38,10 @@ write p ids vs room =
     (need (ltb (length (blocks p ids)) startLimit) OFFSET 0
     (need (leb (length out) room) ROOM (length out)
     (done out))))))
+
+-- the call writes edition 1
+abbrev pub write : ℕ → List ℕ → List ℤ → ℕ → Outcome (List ℕ)
+write p ids vs room = writeAs plain p ids vs room
 
 -- ---- the reply and the output afterwards
 

@@ -41,6 +41,19 @@ pub enum Answer {
     Refused(Refusal),
 }
 
+// What the header says of the values, in the words of its edition: the numbers 6 to 8 (the smallest value as its header number).
+pub struct Fields {
+    pub width: u64,
+    pub smallest: u64,
+    pub divisor: u64,
+}
+
+// The value of an ordinal, or that it does not fit in 64 bits.
+pub enum Fetched {
+    Value(i64),
+    Outside,
+}
+
 impl Refusal {
     // The refusal's number.
     pub fn number(self) -> u64

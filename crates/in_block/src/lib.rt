@@ -9,7 +9,7 @@ ghost use lib.Count.{onesIn};
 ghost use Rattle.format.specs.Limits.{Power, blockPlaces, bitmapBytes};
 ghost use Rattle.format.specs.Ids.{kindOf, rankBytes, dataBytes};
 ghost use Rattle.format.specs.IdsRead.{shorts};
-ghost use Rattle.format.specs.LookUp.{scan, strideLong, strideRank, denseAt, placeAt};
+ghost use Rattle.format.specs.LookUp.{scan, scanned, inSparse, strideLong, strideRank, denseAt, placeAt};
 ghost use Rattle.blocks.specs.Kinds.{kindIs};
 ghost use Rattle.in_block.specs.Place.{placeOf, Below};
 use blocks::Block;
@@ -71,7 +71,7 @@ fn skipped(s: &[u8], at: usize, count: usize, r: u16) -> usize
 // Scans the entries at `at` in order to the first that is r or above.
 fn sparse(s: &[u8], at: usize, count: usize, r: u64) -> Inner
     requires { ⌜ (at + 2 * count ≤ length (now s)) × (r < blockPlaces) ⌝ }
-    ensures { λ a. ⌜ (placeOf a ≡ scan r 0 (shorts count (drop at (now (s .entry))))) × (Below count a) ⌝ }
+    ensures { λ a. ⌜ (placeOf a ≡ inSparse (scan r 0 (shorts count (drop at (now (s .entry)))))) × (Below count a) ⌝ }
 {
     let mut i = skipped(s, at, count, r as u16);
     while i < count {
@@ -161,7 +161,7 @@ fn dense(s: &[u8], t: usize, p: usize, count: usize, r: usize) -> Inner
 pub fn inner_of(s: &[u8], block: Block, p: usize, r: usize) -> Inner
     requires { ⌜ (Power p) × (r < blockPlaces) × (kindIs (block .kind) ≡ kindOf (block .count))
         × (block .start + dataBytes p (block .count) ≤ length (now s)) ⌝ }
-    ensures { λ a. ⌜ (placeOf a ≡ placeAt p (now (s .entry)) (block .start) (block .count) r) × (Below (block .count) a) ⌝ }
+    ensures { λ a. ⌜ (placeOf a ≡ placeAt scanned p (now (s .entry)) (block .start) (block .count) r) × (Below (block .count) a) ⌝ }
 {
     let kind = block.kind;
     let start = block.start;

@@ -1,16 +1,16 @@
 -- The blocks: those that the judge passes are the blocks of fine ascending runs, and it passes all such. From the tests, by induction on the
 -- judge's own steps: each test that passed gives one field of the run. To the tests, by induction on the runs that stand there. Assumes nothing.
 use mathlib.Core.Path.{_≡_, refl, sym, ap, ap₂, _∙_}
-use mathlib.Core.Bool.{Bool, true, false, cond}
-use mathlib.Core.List.{List, [], _∷_, _++_, map, append-assoc}
-use Prim.Native.Nat.{ℕ, zero, suc, _+_, _-_, _*_, _<_, _≤_}
+use mathlib.Core.Bool.{true}
+use mathlib.Core.List.{List, [], _∷_, _++_, append-assoc}
+use Prim.Native.Nat.{ℕ, zero, suc, _+_, _-_, _<_, _≤_}
 use native.Mathlib.Nat.{add-assoc}
 use native.Mathlib.Omega.{arith}
-use lib.Dec.{eqb}
-use lib.ListN.{length, take, drop, length-append, length-drop, take-append-drop, length-map}
+use lib.ListN.{length, take, drop, length-drop, take-append-drop}
 use lib.Seq.{drop-drop}
-use borrow.Author.Tests.{ne-eqb, leb-true, le-leb}
-use Rattle.format.specs.Refusals.{Outcome, done, need}
+use borrow.Author.Tests.{eq-eqb, ne-eqb, leb-true, le-leb}
+use Rattle.format.proofs.Cases.{equal-or}
+use Rattle.format.specs.Refusals.{done, need}
 use Rattle.format.specs.Bytes.{low, fromLow, bytesOf, same, lowAt}
 use Rattle.format.specs.Ids.{Run, dataBytes, blockBytes, blockData, blockOf, endBlock}
 use Rattle.format.specs.IdsRead.{idsOf}
@@ -18,26 +18,19 @@ use Rattle.format.specs.Pairs.{Below}
 use Rattle.format.specs.Runs.{totalBytes, AscBlocks, endOf}
 use Rattle.format.proofs.Tests.{result, needed, both-true}
 use Rattle.format.proofs.RoundTrip.{same-refl}
+use Rattle.format.proofs.Runs.{length-ids}
 use Rattle.format.proofs.Unique.{same-eq}
 use Rattle.format.specs.Limits.{Power}
 use Rattle.format.proofs.Sizes.{block-total}
 use Rattle.format.proofs.Standing.{Stands, stands-long, ahead, end-number}
 use Rattle.judge.specs.Judge.{Ended, judgeEnd, judgeBlock, judgeFrom}
-use Rattle.judge.proofs.Parts.{below-drop, low-split, take-lt}
+use Rattle.judge.proofs.Parts.{low-split, take-lt}
 use Rattle.judge.proofs.Held.{Held, held, Passed, passed}
-
-pub length-ids : (g : Run) (gs : List Run) → length (idsOf (g ∷ gs)) ≡ length (g .places) + length (idsOf gs)
-unfolding idsOf
-length-ids g gs =
-    length-append (map (λ r. g .block * 65536 + r) (g .places)) (idsOf gs)
-    ∙ ap (λ (n : ℕ). n + length (idsOf gs)) (length-map (g .places) (λ r. g .block * 65536 + r))
+use Rattle.format.proofs.Digits.{below-drop}
 
 no-ids : length (idsOf []) ≡ 0
 unfolding idsOf
 no-ids = refl
-
-ended : (a o n : ℕ) (e : Ended) → a ≡ e .start → o ≡ e .count → n ≡ e .next → _≡_ {A = Ended} (record { start = a; count = o; next = n }) e
-ended a o n e p q r j = record { start = p j; count = q j; next = r j }
 
 block-shape : (p : ℕ) (g : Run) (rest : List ℕ)
     → blockOf p g ++ rest ≡ low 2 (g .block) ++ (low 2 (length (g .places) - 1) ++ (blockData p (g .places) ++ rest))
@@ -67,10 +60,9 @@ module _ (p : ℕ) (ok : Power p) (s : List ℕ) where
     built-end at o next e h =
         let s1 = needed _ _ _ _ e h in
         let s2 = needed _ _ _ _ e (s1 .1) in
-        let q : _≡_ {A = Ended} (record { start = at; count = o; next = next }) e = ap (result e) (s2 .1) in
+        let q = ap (result e) (s2 .1) in
         let a : at ≡ e .start = ap (λ (x : Ended). x .start) q in
         let b : o ≡ e .count = ap (λ (x : Ended). x .count) q in
-        let c : next ≡ e .next = ap (λ (x : Ended). x .next) q in
         let six : take 6 (drop at s) ≡ endBlock = same-eq (take 6 (drop at s)) endBlock (s2 .0) in
         record {
           gs = [];
@@ -84,7 +76,7 @@ module _ (p : ℕ) (ok : Power p) (s : List ℕ) where
           asc = tt;
           start = omega arith;
           count = omega (arith, no-ids);
-          after = sym c;
+          after = sym (ap (λ (x : Ended). x .next) q);
           fits = omega (arith, leb-true (at + 6) (length s) (s1 .0));
         }
 
@@ -150,28 +142,19 @@ module _ (p : ℕ) (ok : Power p) (s : List ℕ) where
         let c : ℕ = suc (lowAt 2 s (at + 2)) in
         let s0 = needed _ _ _ _ e h in
         let h4 : at + 4 ≤ length s = leb-true (at + 4) (length s) (s0 .0) in
-        go (eqb (lowAt 2 s at) 32767) h4 (s0 .1) (built f (at + blockBytes p c) (o + c) (suc k) e)
-      where
-        go : (t : Bool) → at + 4 ≤ length s
-            → cond t (judgeEnd s at o next)
-            (judgeBlock p s at next (lowAt 2 s at) (suc (lowAt 2 s (at + 2)))
-            (judgeFrom f p s (at + blockBytes p (suc (lowAt 2 s (at + 2)))) (o + suc (lowAt 2 s (at + 2))) (suc (lowAt 2 s at)))) ≡ done e
-            → (judgeFrom f p s (at + blockBytes p (suc (lowAt 2 s (at + 2)))) (o + suc (lowAt 2 s (at + 2))) (suc (lowAt 2 s at)) ≡ done e
-            → Built p s (at + blockBytes p (suc (lowAt 2 s (at + 2)))) (o + suc (lowAt 2 s (at + 2))) (suc (lowAt 2 s at)) e)
-            → Built p s at o next e
-        go true h4 x ih = built-end at o next e x
-        go false h4 x ih =
-            let c : ℕ = suc (lowAt 2 s (at + 2)) in
-            let s1 = needed _ _ _ _ e x in
-            let s2 = needed _ _ _ _ e (s1 .1) in
-            let s3 = needed _ _ _ _ e (s2 .1) in
-            let s4 = needed _ _ _ _ e (s3 .1) in
-            let s5 = needed _ _ _ _ e (s4 .1) in
-            let b = both-true _ _ (s2 .0) in
-            let hb : at + blockBytes p c ≤ length s = leb-true _ _ (s1 .0) in
-            built-block at o next (lowAt 2 s at) c e refl refl h4 hb (leb-true _ _ (b .0)) (leb-true _ _ (b .1))
-            (held p ok s (at + 4) u c (omega (arith, short-lt (at + 2) (omega arith))) (omega (arith, block-total p c)) (s3 .0) (s4 .0) (s5 .0))
-            (ih (s5 .1))
+        equal-or k 32767
+        (λ q. built-end at o next e (rw (eq-eqb k 32767 q) at (s0 .1)))
+        (λ q.
+        let s1 = needed _ _ _ _ e (rw (ne-eqb k 32767 q) at (s0 .1)) in
+        let s2 = needed _ _ _ _ e (s1 .1) in
+        let s3 = needed _ _ _ _ e (s2 .1) in
+        let s4 = needed _ _ _ _ e (s3 .1) in
+        let s5 = needed _ _ _ _ e (s4 .1) in
+        let b = both-true _ _ (s2 .0) in
+        let hb : at + blockBytes p c ≤ length s = leb-true _ _ (s1 .0) in
+        built-block at o next k c e refl refl h4 hb (leb-true _ _ (b .0)) (leb-true _ _ (b .1))
+        (held p ok s (at + 4) u c (omega (arith, short-lt (at + 2) (omega arith))) (omega (arith, block-total p c)) (s3 .0, s4 .0, s5 .0))
+        (built f (at + blockBytes p c) (o + c) (suc k) e (s5 .1)))
 
   -- ---- to the tests
 
@@ -181,27 +164,16 @@ module _ (p : ℕ) (ok : Power p) (s : List ℕ) where
   judged-end f at o next e rest h a b c =
       let hp : p ≤ 16 = omega (arith, ok .most) in
       let l : at + 6 ≤ length s = omega (arith, stands-long p hp s at rest [] h) in
-      rw (end-number p hp s at rest h, le-leb (at + 4) (length s) (omega arith), le-leb (at + 6) (length s) l, h .bytes, six rest)
-      (ap {B = Outcome Ended} (λ (x : Ended). done x) (ended at o next e a b c))
+      rw (end-number p hp s at rest h, le-leb (at + 4) (length s) (omega arith), le-leb (at + 6) (length s) l, h .bytes, six rest, a, b, c)
 
   -- a block that passes: the judge goes on after it
   went-on : (f at o next k c : ℕ) → lowAt 2 s at ≡ k → suc (lowAt 2 s (at + 2)) ≡ c → at + 4 ≤ length s → (k ≡ 32767 → ⊥)
-      → at + blockBytes p c ≤ length s → next ≤ k → k ≤ 32765 → Passed p ok s (at + 4) c
+      → at + blockBytes p c ≤ length s → next ≤ k → k ≤ 32765 → Passed p s (at + 4) c
       → judgeFrom (suc f) p s at o next ≡ judgeFrom f p s (at + blockBytes p c) (o + c) (suc k)
   unfolding judgeFrom judgeBlock need
   went-on f at o next k c ek ec h4 hk hb hn hm q =
-      rw (
-        ek,
-        ec,
-        le-leb (at + 4) (length s) h4,
-        ne-eqb k 32767 hk,
-        le-leb (at + blockBytes p c) (length s) hb,
-        le-leb next k hn,
-        le-leb k 32765 hm,
-        q .in-places,
-        q .in-ones,
-        q .in-ranks,
-      )
+      rw (ek, ec, le-leb (at + 4) (length s) h4, ne-eqb k 32767 hk, le-leb (at + blockBytes p c) (length s) hb)
+      (rw (le-leb next k hn, le-leb k 32765 hm, q .0, q .1, q .2))
 
   pub judged : (f at o next : ℕ) (gs : List Run) (rest : List ℕ) (e : Ended) → Stands p s at gs rest → AscBlocks next gs → length gs < f
       → at + totalBytes p gs ≡ e .start → o + length (idsOf gs) ≡ e .count → endOf next gs ≡ e .next → judgeFrom f p s at o next ≡ done e
@@ -215,6 +187,6 @@ module _ (p : ℕ) (ok : Power p) (s : List ℕ) where
       let count : suc (lowAt 2 s (at + 2)) ≡ c = omega (arith, a .count) in
       let within : at + 4 ≤ length s = omega (arith, a .inside, block-total p c) in
       went-on f at o next (g .block) c (a .number) count within (λ q. omega (arith, a .fine .number)) (omega (arith, a .inside)) (u .0)
-      (omega (arith, a .fine .number)) (passed p ok s (at + 4) (g .places) more (a .fine .ascending) (a .fine .inside) (a .its-data) (a .few))
+      (omega (arith, a .fine .number)) (passed p ok s (at + 4) (g .places) more (a .fine .ascending) (a .fine .inside) (a .its-data))
       ∙ judged f (at + blockBytes p c) (o + c) (suc (g .block)) gs rest e (a .after) (u .1) (omega arith)
       (omega arith) (omega (arith, length-ids g gs)) z

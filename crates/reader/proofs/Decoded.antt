@@ -1,69 +1,65 @@
 -- What is known of the parts of an accepted column: what fills its buffers asks no more. Assumes nothing.
 use mathlib.Core.Path.{_≡_, sym, ap, ap₂, _∙_, subst}
-use mathlib.Core.List.{List, _++_, map}
-use Prim.Native.Nat.{ℕ, _+_, _-_, _*_, _≤_}
+use mathlib.Core.Bool.{true}
+use mathlib.Core.List.{List, _++_}
+use mathlib.Core.Option.{Option, some}
+use Prim.Native.Nat.{ℕ, _+_, _-_, _≤_}
 use native.Mathlib.Omega.{arith}
 use lib.ListN.{length, take, drop, length-drop}
 use lib.Seq.{take-all}
 use lib.IntN.{ℤ}
 use Rattle.format.specs.Limits.{Power}
-use Rattle.format.specs.Bits.{unpacked}
 use Rattle.format.specs.IdsRead.{readRuns, idsOf}
+use Rattle.format.specs.Pairs.{Pairs, Below}
+use Rattle.format.specs.Editions.{editions, codec}
 use Rattle.format.specs.Column.{Head}
-use Rattle.format.specs.Pairs.{Pairs, Below, Each, Fits}
-use Rattle.format.specs.Opening.{Opened, idPart, valuePart, valueIn}
-use Rattle.format.specs.Check.{pairsIn}
-use Rattle.format.proofs.Unique.{accepted-is}
-use Rattle.judge.proofs.Split.{parts, accepted-joined}
+use Rattle.format.specs.Opening.{Opened, idPart, valuePart}
 use Rattle.format.specs.Rules.{Sound}
+use Rattle.format.specs.Check.{allValues, accepted, idsAfter, valuesAfter}
 use Rattle.format.proofs.Open.{sound}
+use Rattle.format.proofs.Editions.{lawful, lawful-reader}
+use Rattle.format.proofs.Halves.{halves-accepted, accepted-halves, values-decoded, kept}
+use Rattle.judge.proofs.Judged.{section-decoded}
+use Rattle.checking.proofs.Taken.{judged}
 use Rattle.id_reader.specs.Placed.{Accepted}
-use Rattle.value_reader.specs.Stored.{valuesOf}
-use Rattle.value_reader.proofs.Each.{values-in}
 use Rattle.reader.specs.Answered.{Whole}
 
-pub record Decoded (bytes : List ℕ) (c : Opened) : Type 0 where
+-- q are the pairs of the bytes that c was opened from
+pub record Decoded (bytes : List ℕ) (c : Opened) (q : Pairs) : Type 0 where
   pub sound : Sound bytes c
   pub section : Accepted (c .head .power) (idPart bytes c)
-  pub ids : idsOf (readRuns (length (idPart bytes c)) (c .head .power) (idPart bytes c)) ≡ pairsIn bytes c .ids
-  pub ids-long : length (pairsIn bytes c .ids) ≡ c .head .count
-  pub values : valuesOf (c .head .least) (c .head .step) (unpacked (c .head .bits) (c .head .count) (valuePart bytes c)) ≡ pairsIn bytes c .values
-  pub values-long : length (pairsIn bytes c .values) ≡ c .head .count
-  pub fit : Each Fits (valuesOf (c .head .least) (c .head .step) (unpacked (c .head .bits) (c .head .count) (valuePart bytes c)))
-  pub enough : c .head .count * c .head .bits ≤ 8 * length (valuePart bytes c)
+  pub ids : idsOf (readRuns (length (idPart bytes c)) (c .head .power) (idPart bytes c)) ≡ q .ids
+  pub ids-long : length (q .ids) ≡ c .head .count
+  pub values : allValues (c .head .count) (codec (c .head .edition) .value (c .head .count) (c .head .fields) (valuePart bytes c)) ≡ some (q .values)
+  pub values-long : length (q .values) ≡ c .head .count
+  pub rules : codec (c .head .edition) .fieldsOk (c .head .count) (c .head .fields) (length (valuePart bytes c)) ≡ true
 
 module _ (bytes : List ℕ) (c : Opened) (u : Below 256 bytes) (w : Whole bytes c) where
   abbrev q : Pairs
-  q = pairsIn bytes c
+  q = w .pairs
 
   abbrev h : Head
   h = c .head
 
-  in-ids : idsOf (readRuns (length (idPart bytes c)) (h .power) (idPart bytes c)) ≡ q .ids
-  unfolding pairsIn
-  in-ids = ap (λ (n : ℕ). idsOf (readRuns n (h .power) (idPart bytes c))) (parts bytes c u (w .opens) .id-long)
-
-  in-values : length (q .ids) ≡ h .count → valuesOf (h .least) (h .step) (unpacked (h .bits) (h .count) (valuePart bytes c)) ≡ q .values
-  unfolding pairsIn
-  in-values e =
-      sym (ap (λ (n : ℕ). map (valueIn h) (unpacked (h .bits) n (valuePart bytes c))) e ∙ values-in h (unpacked (h .bits) (h .count) (valuePart bytes c)))
-
-  pub decoded : Decoded bytes c
+  pub decoded : Decoded bytes c q
   decoded =
-      let j = accepted-joined bytes c u (w .opens) q (w .taken) in
-      let s : Sound bytes c = sound bytes c (w .opens) in
-      let n : length (q .ids) ≡ h .count = accepted-is bytes c q (w .taken) .0 .lengths ∙ j .1 .lengths in
-      let v = in-values n in
-      let l : length (valuePart bytes c) ≡ h .valueBytes = parts bytes c u (w .opens) .value-long in
+      let both = accepted-halves editions (lawful-reader editions) bytes c u (w .opens) q (w .taken) in
+      let i = both .0 in
+      let v = both .1 in
+      let again = halves-accepted editions (lawful-reader editions) bytes c u (w .opens) i v in
+      let same : _≡_ {A = Pairs} (record { ids = i .ids; values = v .values }) q = let t = w .taken in cc in
+      let s : Sound bytes c = sound editions bytes c (w .opens) in
+      let p : Power (h .power) = s .facts .power in
       record {
         sound = s;
-        section = record { entries = h .jumpCount; count = h .count; judged = j .0 };
-        ids = in-ids;
-        ids-long = n;
-        values = v;
-        values-long = j .1 .lengths;
-        fit = subst (Each Fits) (sym v) (j .1 .fit);
-        enough = omega (arith, s .facts .values);
+        section = record { entries = h .jumpCount; count = h .count; judged = judged (h .power) p (h .jumpCount) (idPart bytes c) (h .count) i };
+        ids = section-decoded (h .power) p (h .jumpCount) (idPart bytes c) (h .count) i ∙ ap (λ (x : Pairs). x .ids) same;
+        ids-long = ap (λ (x : Pairs). length (x .ids)) (sym same) ∙ i .count;
+        values =
+            values-decoded (codec (h .edition)) (lawful (h .edition)) (h .count) (h .fields) (valuePart bytes c) (s .facts .count) v
+            ∙ ap {B = Option (List ℤ)} (λ (x : Pairs). some (x .values)) same;
+        values-long = ap (λ (x : Pairs). length (x .values)) (sym same) ∙ v .count;
+        rules = kept editions bytes c u (w .opens) .rules;
       }
 
   -- ---- the part that holds the ids
@@ -85,9 +81,9 @@ module _ (bytes : List ℕ) (c : Opened) (u : Below 256 bytes) (w : Whole bytes 
       omega (arith, ap length ids-there, decoded .ids-long),
     )
 
-    pub ids-given : (d : List ℕ) → idsOf (readRuns (length s) p s) ++ drop (length (idsOf (readRuns (length s) p s))) d ≡ q .ids ++ drop (h .count) d
-    ids-given d =
-        ap (λ (l : List ℕ). l ++ drop (length l) d) ids-there ∙ ap (λ (n : ℕ). q .ids ++ drop n d) (decoded .ids-long)
+    pub ids-given : (d : List ℕ) → idsOf (readRuns (length s) p s) ++ drop (length (idsOf (readRuns (length s) p s))) d ≡ idsAfter (accepted bytes c) d
+    unfolding idsAfter
+    ids-given d = rw (w .taken) (ap (λ (l : List ℕ). l ++ drop (length l) d) ids-there)
 
   -- ---- the part that holds the values
 
@@ -96,18 +92,13 @@ module _ (bytes : List ℕ) (c : Opened) (u : Below 256 bytes) (w : Whole bytes 
   value-slice start a =
       take-all (length bytes - start) (drop start bytes) (omega (arith, length-drop start bytes)) ∙ ap (λ (x : ℕ). drop x bytes) a
 
-  module _ (s : List ℕ) (n : ℕ) (es : s ≡ valuePart bytes c) (en : n ≡ h .count) where
-    values-there : valuesOf (h .least) (h .step) (unpacked (h .bits) n s) ≡ q .values
-    values-there = ap₂ (λ (x : ℕ) (y : List ℕ). valuesOf (h .least) (h .step) (unpacked (h .bits) x y)) en es ∙ decoded .values
+  module _ (s : List ℕ) (es : s ≡ valuePart bytes c) where
+    pub values-there : allValues (h .count) (codec (h .edition) .value (h .count) (h .fields) s) ≡ some (q .values)
+    values-there = ap (λ (x : List ℕ). allValues (h .count) (codec (h .edition) .value (h .count) (h .fields) x)) es ∙ decoded .values
 
-    pub values-asked : (m : ℕ) → h .count ≤ m
-        → (h .bits ≤ 64) × (n * h .bits ≤ 8 * length s) × (n ≤ m) × Each Fits (valuesOf (h .least) (h .step) (unpacked (h .bits) n s))
-    values-asked m l = (
-      decoded .sound .facts .width,
-      rw (en, es) (decoded .enough),
-      omega arith,
-      rw (en, es) (decoded .fit),
-    )
+    pub values-asked : codec (h .edition) .fieldsOk (h .count) (h .fields) (length s) ≡ true
+    values-asked = ap (λ (x : List ℕ). codec (h .edition) .fieldsOk (h .count) (h .fields) (length x)) es ∙ decoded .rules
 
-    pub values-given : (d : List ℤ) → valuesOf (h .least) (h .step) (unpacked (h .bits) n s) ++ drop n d ≡ q .values ++ drop (h .count) d
-    values-given d = ap₂ {C = List ℤ} (λ (l : List ℤ) (k : ℕ). l ++ drop k d) values-there en
+  pub values-given : (d : List ℤ) → q .values ++ drop (h .count) d ≡ valuesAfter (accepted bytes c) d
+  unfolding valuesAfter
+  values-given d = rw (w .taken) (ap (λ (n : ℕ). q .values ++ drop n d) (sym (decoded .values-long)))

@@ -5,8 +5,9 @@ use Prim.Native.Nat.{ℕ}
 use lib.IntN.{ℤ}
 use Rattle.format.specs.Refusals.{Outcome, done}
 use Rattle.format.specs.Pairs.{Pairs}
+use Rattle.format.specs.Editions.{editions}
 use Rattle.format.specs.Opening.{Opened, openColumn}
-use Rattle.format.specs.Check.{pairsIn, accepted, readReply, idsAfter, valuesAfter}
+use Rattle.format.specs.Check.{accepted, readReply, idsAfter, valuesAfter}
 use Rattle.format.specs.Replies.{replyOf}
 use Rattle.format.specs.declared.Reply.{Reply}
 
@@ -16,7 +17,8 @@ pub record Answered (o : Outcome Pairs) (r : Reply) (ids ids′ : List ℕ) (vs 
   pub in-ids : ids′ ≡ idsAfter o ids
   pub in-values : vs′ ≡ valuesAfter o vs
 
--- bytes that were opened, and found to be a column
+-- bytes that were opened, and found to be the column of these pairs
 pub record Whole (bytes : List ℕ) (c : Opened) : Type 0 where
-  pub opens : openColumn bytes ≡ done c
-  pub taken : accepted bytes c ≡ done (pairsIn bytes c)
+  pub opens : openColumn editions bytes ≡ done c
+  pub pairs : Pairs
+  pub taken : accepted bytes c ≡ done pairs

@@ -1,35 +1,27 @@
 -- The turns of the loops over a block: what was found right so far, with the tests that are left, is what all the tests give. Assumes nothing.
 use mathlib.Core.Path.{_≡_, refl, sym, ap, ap₂, _∙_}
 use mathlib.Core.Bool.{Bool, true, false, cond, _&&_, and-true, and-assoc}
-use mathlib.Core.List.{List, _∷_}
+use mathlib.Core.List.{List}
 use Prim.Native.Nat.{ℕ, suc, _+_, _-_, _*_, _/_, _^_, _<_, _≤_}
 use lib.Pow.{pow-add}
 use native.Mathlib.Omega.{arith}
 use native.Mathlib.Numerals.{add-one}
 use lib.Dec.{eqb, leb, ltb}
-use lib.ListN.{take, drop}
-use lib.Seq.{drop-drop}
-use borrow.Author.Tests.{ltb-true, ltb-false, le-leb, lt-leb, eq-eqb, ne-eqb}
+use lib.ListN.{drop}
+use borrow.Author.Tests.{ltb-true, ltb-false, le-leb, lt-leb}
 use Rattle.format.specs.Limits.{Power}
-use Rattle.format.specs.Bytes.{fromLow, lowAt, highAt}
+use Rattle.format.specs.Bytes.{lowAt, highAt}
 use Rattle.format.specs.Ids.{byKind, rankBytes}
 use Rattle.format.specs.IdsRead.{shorts}
 use Rattle.format.specs.LookUp.{onesFrom}
 use Rattle.format.proofs.Cases.{below-or}
+use Rattle.format.proofs.Standing.{short-next}
 use Rattle.format.proofs.Blocks.{kind-sparse, kind-dense, kind-all}
 use Rattle.judge.specs.Judge.{ascFrom, ranksFrom, placesOk, onesOk, ranksOk, onesUnlike, rankWrong}
 use Rattle.format.proofs.Sizes.{ranks-none, ranks-some}
 use Rattle.judge.proofs.Held.{ranks-zero}
 
 -- ---- shorts that ascend
-
-short-next : (s : List ℕ) (t c i : ℕ) → i < c → shorts (c - i) (drop (t + 2 * i) s) ≡ lowAt 2 s (t + 2 * i) ∷ shorts (c - (i + 1)) (drop (t + 2 * (i + 1)) s)
-unfolding shorts lowAt
-short-next s t c i h =
-    let e : c - i ≡ suc (c - (i + 1)) = omega arith in
-    let f : t + 2 * i + 2 ≡ t + 2 * (i + 1) = omega arith in
-    rw e (ap {B = List ℕ} (λ (l : List ℕ). fromLow (take 2 (drop (t + 2 * i) s)) ∷ shorts (c - (i + 1)) l)
-    (drop-drop 2 (t + 2 * i) s ∙ ap (λ (x : ℕ). drop x s) f))
 
 ltb-leb : (a b : ℕ) → ltb a b ≡ leb (a + 1) b
 ltb-leb a b = go (ltb a b) refl
@@ -45,20 +37,22 @@ unfolding ascFrom
 asc-on s t c i a h = rw (short-next s t c i h, add-one (lowAt 2 s (t + 2 * i)))
 
 -- one more neighbour, x after y
-pub asc-turn : (s : List ℕ) (t c i y x : ℕ) (right : Bool) → i < c → x ≡ lowAt 2 s (t + 2 * i)
-    → (right && ascFrom (y + 1) (shorts (c - i) (drop (t + 2 * i) s)))
-    ≡ ((right && ltb y x) && ascFrom (x + 1) (shorts (c - (i + 1)) (drop (t + 2 * (i + 1)) s)))
-asc-turn s t c i y x right h e =
-    ap (λ (q : Bool). right && q) (asc-on s t c i (y + 1) h) ∙ rw (e, ltb-leb) (sym (and-assoc right _ _))
+pub asc-turn : (s : List ℕ) (t c i y x : ℕ) (right q : Bool) → i < c → x ≡ lowAt 2 s (t + 2 * i) → y ≡ lowAt 2 s (t + 2 * (i - 1)) → q ≡ (right && ltb y x)
+    → (right && ascFrom (lowAt 2 s (t + 2 * (i - 1)) + 1) (shorts (c - i) (drop (t + 2 * i) s)))
+    ≡ (q && ascFrom (lowAt 2 s (t + 2 * (i + 1 - 1)) + 1) (shorts (c - (i + 1)) (drop (t + 2 * (i + 1)) s)))
+asc-turn s t c i y x right q h ex ey eq =
+    let e : i + 1 - 1 ≡ i = omega arith in
+    rw (← ey, asc-on s t c i (y + 1) h, e, ← ex, eq, ltb-leb) (sym (and-assoc right _ _))
 
 asc-nil : (n a : ℕ) (l : List ℕ) → n ≡ 0 → ascFrom a (shorts n l) ≡ true
 unfolding ascFrom shorts
 asc-nil n a l e = rw e
 
 pub asc-end : (s : List ℕ) (t c i a : ℕ) (right : Bool) → c ≤ i → (right && ascFrom a (shorts (c - i) (drop (t + 2 * i) s))) ≡ right
-asc-end s t c i a right h = ap (λ (q : Bool). right && q) (asc-nil (c - i) a (drop (t + 2 * i) s) (omega arith)) ∙ and-true right
+asc-end s t c i a right h = rw (asc-nil (c - i) a (drop (t + 2 * i) s) (omega arith)) (and-true right)
 
-pub asc-begin : (s : List ℕ) (t c y : ℕ) → y ≡ lowAt 2 s (t + 2 * 0) → ascFrom 0 (shorts c (drop t s)) ≡ ascFrom (y + 1) (shorts (c - 1) (drop (t + 2 * 1) s))
+pub asc-begin : (s : List ℕ) (t c y : ℕ) → y ≡ lowAt 2 s (t + 2 * 0)
+    → ascFrom 0 (shorts c (drop t s)) ≡ ascFrom (y + 1) (shorts (c - 1) (drop (t + 2 * 1) s))
 asc-begin s t c y q =
     let e : c ≡ c - 0 = omega arith in
     let f : t ≡ t + 2 * 0 = omega arith in
@@ -112,25 +106,16 @@ module _ (p : ℕ) (s : List ℕ) (t c : ℕ) where
   unfolding onesOk ranksOk byKind
   words-whole h = rw (kind-all c h)
 
-  module _ (h : 4096 ≤ c) (k : c < 65536) (n : ℕ) (r : Bool) (en : n ≡ onesFrom s (t + rankBytes p) 1024 0)
-      (er : r ≡ ranksFrom (rankBytes p / 2) p s t (t + rankBytes p) 0) where
-    pub words-unlike : (n ≡ c → ⊥) → 4 ≡ wordsReason
-    unfolding onesOk ranksOk byKind
-    words-unlike e = rw (kind-dense c h k, ← en, ne-eqb n c e)
-
-    pub words-ranks : n ≡ c → r ≡ false → 5 ≡ wordsReason
-    unfolding onesOk ranksOk byKind
-    words-ranks e f = rw (kind-dense c h k, ← en, eq-eqb n c e, ← er, f)
-
-    pub words-none : n ≡ c → r ≡ true → 0 ≡ wordsReason
-    unfolding onesOk ranksOk byKind
-    words-none e f = rw (kind-dense c h k, ← en, eq-eqb n c e, ← er, f)
+  pub words-dense : 4096 ≤ c → c < 65536 → (n : ℕ) (r : Bool) → n ≡ onesFrom s (t + rankBytes p) 1024 0
+      → r ≡ ranksFrom (rankBytes p / 2) p s t (t + rankBytes p) 0 → cond (eqb n c) (cond r 0 rankWrong) onesUnlike ≡ wordsReason
+  unfolding onesOk ranksOk byKind
+  words-dense h k n r en er = rw (kind-dense c h k, ← en, ← er)
 
 pub ranks-begin : (b p : ℕ) (s : List ℕ) (t : ℕ) → b ≡ rankBytes p
     → ranksFrom (rankBytes p / 2) p s t (t + rankBytes p) 0 ≡ ranksFrom (b / 2 - 0) p s t (t + b) 0
 ranks-begin b p s t e =
     let f : rankBytes p / 2 ≡ b / 2 - 0 = omega arith in
-    ap₂ (λ (x y : ℕ). ranksFrom x p s t (t + y) 0) f (sym e)
+    rw (f, ← e)
 
 pub ranks-free : (p : ℕ) (s : List ℕ) (t m : ℕ) → p ≡ 0 → ranksFrom (rankBytes p / 2) p s t m 0 ≡ true
 ranks-free p s t m e = ranks-zero (rankBytes p / 2) p s t m (ap (λ (x : ℕ). x / 2) (ranks-none p e))

@@ -6,7 +6,7 @@ use Prim.Native.Nat.{ℕ, zero, suc, _+_, _*_, _/_, _^_, _<_, _≤_}
 use native.Mathlib.Nat.{mod-eq-of-lt}
 use native.Mathlib.Omega.{arith}
 use lib.Dec.{eqb, lit<}
-use lib.ListN.{length, take, drop, length-drop, length-take}
+use lib.ListN.{length, take, drop, getD, length-drop, length-take}
 use lib.Seq.{length-take-le}
 use borrow.Author.Tests.{eq-eqb, ne-eqb}
 use Rattle.format.specs.Bytes.{digits, fromDigits, low, fromLow, same, lowAt}
@@ -14,10 +14,9 @@ use Rattle.format.specs.Ids.{Entry, entryBytes, endBlock}
 use Rattle.format.specs.Pairs.{Below}
 use Rattle.format.proofs.Cases.{equal-or}
 use Rattle.format.proofs.Section.{entry-eight}
-use Rattle.format.proofs.Digits.{digits-from, from-digits, from-append, length-digits, below-append}
+use Rattle.format.proofs.Digits.{digits-from, from-digits, from-append, length-digits, below-append, below-take, below-drop, below-all}
 use Rattle.format.proofs.RoundTrip.{same-refl}
 use Rattle.format.proofs.Unique.{same-eq}
-use Rattle.judge.proofs.Parts.{below-take, below-drop}
 use Rattle.numbers.proofs.Shorts.{low-add}
 
 differ : (l m : List ℕ) → (l ≡ m → ⊥) → same l m ≡ false
@@ -27,7 +26,7 @@ differ l m h = go (same l m) refl
     go true e = absurd (h (same-eq l m e))
     go false e = e
 
-pub same-number : (l m : List ℕ) → length l ≡ length m → Below 256 l → Below 256 m → same l m ≡ eqb (fromLow l) (fromLow m)
+same-number : (l m : List ℕ) → length l ≡ length m → Below 256 l → Below 256 m → same l m ≡ eqb (fromLow l) (fromLow m)
 same-number l m e t u =
     equal-or (fromLow l) (fromLow m)
     (λ h.
@@ -51,21 +50,14 @@ entry-number o a h k =
     ∙ ap₂ (λ (n x : ℕ). fromLow (low 4 o) + 256 ^ n * x) (length-digits 256 4 o) (from-digits 256 4 a (lit< tt) ∙ mod-eq-of-lt k)
     ∙ ap (λ (x : ℕ). x + 4294967296 * a) (from-digits 256 4 o (lit< tt) ∙ mod-eq-of-lt h)
 
-long-number : (s : List ℕ) (b : ℕ) → b + 8 ≤ length s → fromLow (take 8 (drop b s)) ≡ lowAt 4 s b + 4294967296 * lowAt 4 s (b + 4)
-unfolding lowAt
-long-number s b h = low-add 4 4 s b (omega arith)
-
-six-number : (s : List ℕ) (b : ℕ) → b + 6 ≤ length s → fromLow (take 6 (drop b s)) ≡ lowAt 4 s b + 4294967296 * lowAt 2 s (b + 4)
-unfolding lowAt
-six-number s b h = low-add 4 2 s b (omega arith)
-
 -- an entry as two ints
-pub entry-same : (s : List ℕ) (b o a : ℕ) → Below 256 s → b + 8 ≤ length s → o < 4294967296 → a < 4294967296
+pub entry-same : (s : List ℕ) (b o a : ℕ) → ((i : ℕ) → getD s i 0 < 256) → b + 8 ≤ length s → o < 4294967296 → a < 4294967296
     → same (take 8 (drop b s)) (entryBytes (o, a)) ≡ eqb (lowAt 4 s b + 4294967296 * lowAt 4 s (b + 4)) (o + 4294967296 * a)
+unfolding lowAt
 entry-same s b o a u h ho ha =
     same-number (take 8 (drop b s)) (entryBytes (o, a)) (length-take-le 8 (drop b s) (omega (arith, length-drop b s)) ∙ sym (entry-eight (o, a)))
-    (below-take 256 8 (drop b s) (below-drop 256 b s u)) (entry-below (o, a))
-    ∙ ap₂ eqb (long-number s b h) (entry-number o a ho ha)
+    (below-take 256 8 (drop b s) (below-drop 256 b s (below-all 256 s u))) (entry-below (o, a))
+    ∙ ap₂ eqb (low-add 4 4 s b (omega arith)) (entry-number o a ho ha)
 
 pub entry-short : (s : List ℕ) (b : ℕ) (e : Entry) → length s < b + 8 → same (take 8 (drop b s)) (entryBytes e) ≡ false
 entry-short s b e h =
@@ -80,9 +72,10 @@ end-number : (length endBlock ≡ 6) × (fromLow endBlock ≡ 281470681776127)
 unfolding endBlock fromDigits
 end-number = (refl, refl)
 
-pub end-same : (s : List ℕ) (at : ℕ) → Below 256 s → at + 6 ≤ length s
+pub end-same : (s : List ℕ) (at : ℕ) → ((i : ℕ) → getD s i 0 < 256) → at + 6 ≤ length s
     → same (take 6 (drop at s)) endBlock ≡ eqb (lowAt 4 s at + 4294967296 * lowAt 2 s (at + 4)) 281470681776127
+unfolding lowAt
 end-same s at u h =
     same-number (take 6 (drop at s)) endBlock (length-take-le 6 (drop at s) (omega (arith, length-drop at s)) ∙ sym (end-number .0))
-    (below-take 256 6 (drop at s) (below-drop 256 at s u)) end-below
-    ∙ ap₂ eqb (six-number s at h) (end-number .1)
+    (below-take 256 6 (drop at s) (below-drop 256 at s (below-all 256 s u))) end-below
+    ∙ ap₂ eqb (low-add 4 2 s at (omega arith)) (end-number .1)

@@ -9,8 +9,7 @@ use Rattle.format.specs.Refusals.{Outcome, done, refused}
 use Rattle.format.specs.Bytes.{same}
 use Rattle.format.specs.Ids.{Entry, blockBytes, endBlock}
 use Rattle.format.specs.Limits.{maxBlock}
-use Rattle.judge.specs.Judge.{placesOk, onesOk, ranksOk, cutOff, blockOrder, placeOrder, onesUnlike, rankWrong, endWrong, jumpWrong}
-use Rattle.judge.specs.Judge.{Ended, judgeEntries}
+use Rattle.judge.specs.Judge.{placesOk, onesOk, ranksOk, cutOff, blockOrder, placeOrder, onesUnlike, rankWrong, endWrong, jumpWrong, Ended, judgeEntries}
 use Rattle.section_check.specs.declared.BlocksEnd as Bl
 use Rattle.section_check.specs.declared.EntriesEnd as En
 use Rattle.section_check.specs.declared.Verdict as Ve

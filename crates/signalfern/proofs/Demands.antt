@@ -1,6 +1,6 @@
 -- The three demands, stated for the shipped calls: r, c, q and a below are any replies that keep the promises of `write`, `check`,
 -- `read` and `look_up` in src/lib.rt, and a list with ′ is a lent buffer after the call. Assumes nothing.
-use mathlib.Core.Path.{_≡_, refl, sym, ap, _∙_}
+use mathlib.Core.Path.{_≡_, refl, sym, ap, _∙_, subst}
 use mathlib.Core.List.{List, _++_}
 use Prim.Native.Nat.{ℕ, _≤_}
 use native.Mathlib.Omega.{arith}
@@ -11,6 +11,7 @@ use borrow.Author.Tests.{le-leb}
 use Rattle.format.specs.Limits.{maxId}
 use Rattle.format.specs.Refusals.{Outcome, done, refused, andThen, need}
 use Rattle.format.specs.Pairs.{Pairs, Each, Fits, Valid}
+use Rattle.format.specs.Editions.{Edition, plain, editions}
 use Rattle.format.specs.Column.{column}
 use Rattle.format.specs.Writer.{write, writeReply, writeOut}
 use Rattle.format.specs.Opening.{Opened, openColumn}
@@ -21,8 +22,9 @@ use Rattle.format.specs.Replies.{replyOf, answerOf}
 use Rattle.format.specs.declared.Reply.{Reply}
 use Rattle.format.specs.declared.Answer.{Answer}
 use Rattle.format.proofs.Tests.{result, passed}
-use Rattle.format.proofs.Unique.{accepted-is, its-count, written-valid}
-use Rattle.format.proofs.Demands.{written, checked, read-back, accepted-answers}
+use Rattle.format.proofs.Editions.{lawful-reader}
+use Rattle.format.proofs.Unique.{written-valid, is-read}
+use Rattle.format.proofs.Demands.{written-1, checked-1, read-back-1, accepted-answers}
 
 -- ---- demand 1: a refused call changes no byte that it was lent
 
@@ -37,13 +39,13 @@ refused-write p ids vs out out′ r why w k after e = go (write p ids vs (length
     go (refused x y) f = after ∙ ap (λ (o : Outcome (List ℕ)). writeOut o out) f
 
 pub refused-read : (bytes is is′ : List ℕ) (xs xs′ : List ℤ) (q : Reply) (why w : ℕ)
-    → replyOf q ≡ readReply (reading bytes (length is) (length xs))
-    → is′ ≡ idsAfter (reading bytes (length is) (length xs)) is → xs′ ≡ valuesAfter (reading bytes (length is) (length xs)) xs
+    → replyOf q ≡ readReply (reading editions bytes (length is) (length xs))
+    → is′ ≡ idsAfter (reading editions bytes (length is) (length xs)) is → xs′ ≡ valuesAfter (reading editions bytes (length is) (length xs)) xs
     → replyOf q ≡ refused why w → (is′ ≡ is) × (xs′ ≡ xs)
 unfolding readReply idsAfter valuesAfter
-refused-read bytes is is′ xs xs′ q why w k ki kx e = go (reading bytes (length is) (length xs)) refl
+refused-read bytes is is′ xs xs′ q why w k ki kx e = go (reading editions bytes (length is) (length xs)) refl
   where
-    go : (o : Outcome Pairs) → reading bytes (length is) (length xs) ≡ o → (is′ ≡ is) × (xs′ ≡ xs)
+    go : (o : Outcome Pairs) → reading editions bytes (length is) (length xs) ≡ o → (is′ ≡ is) × (xs′ ≡ xs)
     go (done b) f = absurd (let x = ap readReply f in let z : _≡_ {A = ℕ} 0 1 = cc in omega arith)
     go (refused x y) f = (ki ∙ ap (λ (o : Outcome Pairs). idsAfter o is) f, kx ∙ ap (λ (o : Outcome Pairs). valuesAfter o xs) f)
 
@@ -55,9 +57,9 @@ pub record Filled (ids : List ℕ) (vs : List ℤ) (q : Reply) (is′ : List ℕ
   pub values-there : take (length vs) xs′ ≡ vs
 
 filled : (ids : List ℕ) (vs : List ℤ) (bytes is is′ : List ℕ) (xs xs′ : List ℤ) (q : Reply)
-    → reading bytes (length is) (length xs) ≡ done (record { ids = ids; values = vs })
-    → replyOf q ≡ readReply (reading bytes (length is) (length xs))
-    → is′ ≡ idsAfter (reading bytes (length is) (length xs)) is → xs′ ≡ valuesAfter (reading bytes (length is) (length xs)) xs
+    → reading editions bytes (length is) (length xs) ≡ done (record { ids = ids; values = vs })
+    → replyOf q ≡ readReply (reading editions bytes (length is) (length xs))
+    → is′ ≡ idsAfter (reading editions bytes (length is) (length xs)) is → xs′ ≡ valuesAfter (reading editions bytes (length is) (length xs)) xs
     → Filled ids vs q is′ xs′
 unfolding readReply idsAfter valuesAfter
 filled ids vs bytes is is′ xs xs′ q e k ki kx =
@@ -75,29 +77,29 @@ module _ (p : ℕ) (ids : List ℕ) (vs : List ℤ) (fit : Each Fits vs) (out ou
     (kept : replyOf r ≡ writeReply (write p ids vs (length out))) (after : out′ ≡ writeOut (write p ids vs (length out)) out)
     (wrote : replyOf r ≡ done n) where
   -- the lists were within the limits, and the first n bytes are their column
-  pub wrote-column : Valid p ids vs × (take n out′ ≡ column p ids vs)
+  pub wrote-column : Valid p ids vs × (take n out′ ≡ column plain p ids vs)
   unfolding writeReply writeOut
   wrote-column = go (write p ids vs (length out)) refl
     where
-      go : (o : Outcome (List ℕ)) → write p ids vs (length out) ≡ o → Valid p ids vs × (take n out′ ≡ column p ids vs)
+      go : (o : Outcome (List ℕ)) → write p ids vs (length out) ≡ o → Valid p ids vs × (take n out′ ≡ column plain p ids vs)
       go (done b) f =
-          let v = written-valid p ids vs (length out) b fit f in
+          let v = written-valid plain p ids vs (length out) b fit f in
           let m : n ≡ length b = let x = ap writeReply f in cc in
           let o : out′ ≡ b ++ drop (length b) out = after ∙ ap (λ (o : Outcome (List ℕ)). writeOut o out) f in
           (v .0, ap (take n) o ∙ take-at b (drop (length b) out) n (sym m) ∙ sym (v .1))
       go (refused x y) f = absurd (let x = ap writeReply f in let z : _≡_ {A = ℕ} 0 1 = cc in omega arith)
 
-  pub write-then-check : (c : Reply) → replyOf c ≡ check (take n out′) → replyOf c ≡ done (length ids)
-  write-then-check c k = let w = wrote-column in k ∙ ap check (w .1) ∙ checked p ids vs (w .0)
+  pub write-then-check : (c : Reply) → replyOf c ≡ check editions (take n out′) → replyOf c ≡ done (length ids)
+  write-then-check c k = let w = wrote-column in k ∙ ap (check editions) (w .1) ∙ checked-1 p ids vs (w .0)
 
   pub write-then-read : (q : Reply) (is is′ : List ℕ) (xs xs′ : List ℤ) → length ids ≤ length is → length ids ≤ length xs
-      → replyOf q ≡ readReply (reading (take n out′) (length is) (length xs))
-      → is′ ≡ idsAfter (reading (take n out′) (length is) (length xs)) is
-      → xs′ ≡ valuesAfter (reading (take n out′) (length is) (length xs)) xs → Filled ids vs q is′ xs′
+      → replyOf q ≡ readReply (reading editions (take n out′) (length is) (length xs))
+      → is′ ≡ idsAfter (reading editions (take n out′) (length is) (length xs)) is
+      → xs′ ≡ valuesAfter (reading editions (take n out′) (length is) (length xs)) xs → Filled ids vs q is′ xs′
   write-then-read q is is′ xs xs′ ri rx =
       let w = wrote-column in
       filled ids vs (take n out′) is is′ xs xs′ q
-      (ap (λ (b : List ℕ). reading b (length is) (length xs)) (w .1) ∙ read-back p ids vs (w .0) (length is) (length xs) ri rx)
+      (ap (λ (b : List ℕ). reading editions b (length is) (length xs)) (w .1) ∙ read-back-1 p ids vs (w .0) (length is) (length xs) ri rx)
 
 -- ---- what `check` accepts: the list, and that `write` gives these bytes for it
 
@@ -105,43 +107,48 @@ module _ (p : ℕ) (ids : List ℕ) (vs : List ℤ) (fit : Each Fits vs) (out ou
 pub record Held (bytes : List ℕ) (n : ℕ) : Type 0 where
   pub opened : Opened
   pub pairs : Pairs
-  pub is-opened : openColumn bytes ≡ done opened
+  pub is-opened : openColumn editions bytes ≡ done opened
   pub is-accepted : accepted bytes opened ≡ done pairs
   pub count : length (pairs .ids) ≡ n
-  pub reads : (idRoom valueRoom : ℕ) → n ≤ idRoom → n ≤ valueRoom → reading bytes idRoom valueRoom ≡ done pairs
+  pub reads : (idRoom valueRoom : ℕ) → n ≤ idRoom → n ≤ valueRoom → reading editions bytes idRoom valueRoom ≡ done pairs
   pub writes : (room : ℕ) → length bytes ≤ room → write (opened .head .power) (pairs .ids) (pairs .values) room ≡ done bytes
 
-reads-pairs : (bytes : List ℕ) (o : Opened) (q : Pairs) (idRoom valueRoom : ℕ) → openColumn bytes ≡ done o → accepted bytes o ≡ done q
-    → o .head .count ≤ idRoom → o .head .count ≤ valueRoom → reading bytes idRoom valueRoom ≡ done q
+reads-pairs : (bytes : List ℕ) (o : Opened) (q : Pairs) (idRoom valueRoom : ℕ) → openColumn editions bytes ≡ done o → accepted bytes o ≡ done q
+    → o .head .count ≤ idRoom → o .head .count ≤ valueRoom → reading editions bytes idRoom valueRoom ≡ done q
 unfolding reading andThen need
 reads-pairs bytes o q a b eo eq ha hb = rw (eo, le-leb (o .head .count) a ha, le-leb (o .head .count) b hb, eq)
 
-module _ (bytes : List ℕ) (c : Reply) (n : ℕ) (kept : replyOf c ≡ check bytes) (accepts : replyOf c ≡ done n) where
+-- `write` writes every edition there is
+all-plain : (ed : Edition) → ed ≡ plain
+all-plain plain = refl
+
+module _ (bytes : List ℕ) (c : Reply) (n : ℕ) (kept : replyOf c ≡ check editions bytes) (accepts : replyOf c ≡ done n) where
   pub check-holds : Held bytes n
   unfolding check
   check-holds =
-      let e : check bytes ≡ done n = sym kept ∙ accepts in
+      let e : check editions bytes ≡ done n = sym kept ∙ accepts in
       let o = passed _ _ n e in
       let t = passed _ _ n (o .2) in
-      let s = accepted-is bytes (o .0) (t .0) (t .1) in
+      let s = is-read editions (lawful-reader editions) bytes (o .0) (t .0) (o .1) (t .1) in
       let m : o .0 .head .count ≡ n = ap (result n) (t .2) in
-      let col : column (o .0 .head .power) (t .0 .ids) (t .0 .values) ≡ bytes = s .1 in
+      let col : column plain (o .0 .head .power) (t .0 .ids) (t .0 .values) ≡ bytes =
+      subst (λ (ed : Edition). column ed (o .0 .head .power) (t .0 .ids) (t .0 .values) ≡ bytes) (all-plain (o .0 .head .edition)) (s .bytes-are) in
       record {
         opened = o .0;
         pairs = t .0;
         is-opened = o .1;
         is-accepted = t .1;
-        count = its-count bytes (o .0) (t .0) (o .1) (t .1) ∙ m;
+        count = s .count ∙ m;
         reads = λ a b ha hb. reads-pairs bytes (o .0) (t .0) a b (o .1) (t .1) (omega arith) (omega arith);
         writes = λ room h.
-            written (o .0 .head .power) (t .0 .ids) (t .0 .values) (s .0) room (omega (arith, ap length col))
+            written-1 (o .0 .head .power) (t .0 .ids) (t .0 .values) (s .valid) room (omega (arith, ap length col))
             ∙ ap {B = Outcome (List ℕ)} (λ (b : List ℕ). done b) col;
       }
 
   -- `read` gives that list
   pub check-then-read : (q : Reply) (is is′ : List ℕ) (xs xs′ : List ℤ) → n ≤ length is → n ≤ length xs
-      → replyOf q ≡ readReply (reading bytes (length is) (length xs))
-      → is′ ≡ idsAfter (reading bytes (length is) (length xs)) is → xs′ ≡ valuesAfter (reading bytes (length is) (length xs)) xs
+      → replyOf q ≡ readReply (reading editions bytes (length is) (length xs))
+      → is′ ≡ idsAfter (reading editions bytes (length is) (length xs)) is → xs′ ≡ valuesAfter (reading editions bytes (length is) (length xs)) xs
       → Filled (check-holds .pairs .ids) (check-holds .pairs .values) q is′ xs′
   check-then-read q is is′ xs xs′ ri rx =
       filled (check-holds .pairs .ids) (check-holds .pairs .values) bytes is is′ xs xs′ q (check-holds .reads (length is) (length xs) ri rx)
@@ -160,11 +167,11 @@ module _ (bytes : List ℕ) (c : Reply) (n : ℕ) (kept : replyOf c ≡ check by
 
   -- ---- demand 3: on those bytes the look-up, the walk and the list agree, with the words of the formula
 
-  pub check-then-look-up : (id : ℕ) → id ≤ maxId → (a : Answer) → answerOf a ≡ lookUp bytes id
+  pub check-then-look-up : (id : ℕ) → id ≤ maxId → (a : Answer) → answerOf a ≡ lookUp editions bytes id
       → (answerOf a ≡ done (listAnswer (check-holds .opened .head .power) (check-holds .pairs .ids) (check-holds .pairs .values) id))
       × (walk bytes (check-holds .opened) id
       ≡ wordless (listAnswer (check-holds .opened .head .power) (check-holds .pairs .ids) (check-holds .pairs .values) id))
       × (words (check-holds .opened .head .power) (check-holds .pairs .ids) id ≤ strideWords (check-holds .opened .head .power))
   check-then-look-up id h a k =
-      let s = accepted-answers bytes (check-holds .opened) (check-holds .pairs) (check-holds .is-opened) (check-holds .is-accepted) id h in
+      let s = accepted-answers editions (lawful-reader editions) bytes (check-holds .opened) (check-holds .pairs) (check-holds .is-opened) (check-holds .is-accepted) id h in
       (k ∙ s .looked, s .walked, s .few-words)

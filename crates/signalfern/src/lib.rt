@@ -5,6 +5,7 @@ ghost use lib.ListN.{length};
 ghost use Rattle.format.specs.Writer.{write, writeReply, writeOut};
 ghost use Rattle.format.specs.Check.{check, reading, readReply, idsAfter, valuesAfter};
 ghost use Rattle.format.specs.Refusals.{done};
+ghost use Rattle.format.specs.Editions.{editions};
 ghost use Rattle.format.specs.Opening.{Opened, openColumn};
 ghost use Rattle.format.specs.LookUp.{lookUp, lookUpIn};
 ghost use Rattle.format.specs.Walk.{FewWords};
@@ -27,7 +28,7 @@ pub fn write(ids: &[u32], values: &[i64], power: u32, out: &mut [u8]) -> Reply
 
 // Checks that the bytes are the column of some pair list, and hands back its n. Refusals 7 to 11, then 13.
 pub fn check(bytes: &[u8]) -> Reply
-    ensures { λ r. ⌜ replyOf r ≡ check (now (bytes .entry)) ⌝ }
+    ensures { λ r. ⌜ replyOf r ≡ check editions (now (bytes .entry)) ⌝ }
 {
     checking::check(bytes)
 }
@@ -35,13 +36,13 @@ pub fn check(bytes: &[u8]) -> Reply
 // Reads a column's ids and values into the first n places of each buffer, and hands back n. Refusals 7 to 11, 12, 13; all is
 // verified before a place is written, and a refusal changes nothing.
 pub fn read(bytes: &[u8], ids: &mut [u32], values: &mut [i64]) -> Reply
-    ensures replies { λ r. ⌜ replyOf r ≡ readReply (reading (now (bytes .entry)) (length (now (ids .entry))) (length (now (values .entry)))) ⌝ }
+    ensures replies { λ r. ⌜ replyOf r ≡ readReply (reading editions (now (bytes .entry)) (length (now (ids .entry))) (length (now (values .entry)))) ⌝ }
     ensures ids_filled { λ _.
         ⌜ now (ids .exit)
-        ≡ idsAfter (reading (now (bytes .entry)) (length (now (ids .entry))) (length (now (values .entry)))) (now (ids .entry)) ⌝ }
+        ≡ idsAfter (reading editions (now (bytes .entry)) (length (now (ids .entry))) (length (now (values .entry)))) (now (ids .entry)) ⌝ }
     ensures values_filled { λ _.
         ⌜ now (values .exit)
-        ≡ valuesAfter (reading (now (bytes .entry)) (length (now (ids .entry))) (length (now (values .entry)))) (now (values .entry)) ⌝ }
+        ≡ valuesAfter (reading editions (now (bytes .entry)) (length (now (ids .entry))) (length (now (values .entry)))) (now (values .entry)) ⌝ }
 {
     reader::read(bytes, ids, values)
 }
@@ -49,8 +50,8 @@ pub fn read(bytes: &[u8], ids: &mut [u32], values: &mut [i64]) -> Reply
 // Looks one id up by jump entries and ranks: refusals 14, 7 to 11, 15. It reads the header, one jump entry, one block head, at most
 // one stride of words (or one block's, without ranks) and one value.
 pub fn look_up(bytes: &[u8], id: u32) -> Answer
-    ensures answers { λ r. ⌜ answerOf r ≡ lookUp (now (bytes .entry)) id ⌝ }
-    ensures words { λ r. ⌜ ((c : Opened) → openColumn (now (bytes .entry)) ≡ done c → FewWords (c .head .power) (answerOf r)) ⌝ }
+    ensures answers { λ r. ⌜ answerOf r ≡ lookUp editions (now (bytes .entry)) id ⌝ }
+    ensures words { λ r. ⌜ ((c : Opened) → openColumn editions (now (bytes .entry)) ≡ done c → FewWords (c .head .power) (answerOf r)) ⌝ }
 {
     lookup::look_up(bytes, id)
 }
@@ -59,7 +60,7 @@ pub fn look_up(bytes: &[u8], id: u32) -> Answer
 // are safe: 14, then 10 where they break a header rule, 11 where they do not fit these bytes, then 15.
 pub fn look_up_in(column: Column, bytes: &[u8], id: u32) -> Answer
     ensures answers { λ r. ⌜ answerOf r ≡ lookUpIn (now (bytes .entry)) (columnOf column) id ⌝ }
-    ensures words { λ r. ⌜ FewWords (column .power) (answerOf r) ⌝ }
+    ensures words { λ r. ⌜ FewWords (column .head .power) (answerOf r) ⌝ }
 {
     lookup::look_up_in(column, bytes, id)
 }

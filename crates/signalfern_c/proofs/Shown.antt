@@ -1,17 +1,22 @@
 -- What crosses the boundary, by the cases of the library's enums. Assumes nothing.
 use mathlib.Core.Path.{_≡_, sym, ap, ap₂, _∙_}
+use mathlib.Core.Bool.{Bool, true, false}
 use Prim.Native.Nat.{ℕ}
+use lib.Dec.{leb}
 use lib.IntN.{pos}
+use Rattle.format.specs.Limits.{maxId}
+use Rattle.format.specs.Refusals.{refused, need, HEADER, ID}
+use Rattle.format.specs.Walk.{FewWords}
 use Rattle.format.specs.Replies.{refusalNumber, refusalWith, replyOf, answerOf}
 use Rattle.format.specs.declared.Refusal.{Refusal}
 use Rattle.format.specs.declared.Reply.{Reply}
 use Rattle.format.specs.declared.Answer.{Answer}
 use Rattle.column.specs.Opened.{openedOf}
-use Rattle.column.specs.declared.Opened.{Opened}
+use Rattle.column.specs.declared.Opening.{Opening}
 use Rattle.signalfern_c.specs.declared.CReply.{CReply}
 use Rattle.signalfern_c.specs.declared.CAnswer.{CAnswer}
 use Rattle.signalfern_c.specs.declared.CColumn.{CColumn}
-use Rattle.signalfern_c.specs.Boundary.{replyC, answerC, columnC}
+use Rattle.signalfern_c.specs.Boundary.{replyC, answerC, columnC, unknownC}
 
 module _ (why : Refusal) (a b : ℕ) (ea : a ≡ refusalNumber why) (eb : b ≡ refusalWith why) where
   pub refused-reply : (r : Reply) → r ≡ Reply.Refused why → _≡_ {A = CReply} (record { refusal = a; number = b }) (replyC (replyOf r))
@@ -24,24 +29,49 @@ module _ (why : Refusal) (a b : ℕ) (ea : a ≡ refusalNumber why) (eb : b ≡ 
       ap₂ {C = CAnswer} (λ (x y : ℕ). record { kind = x; number = y; ordinal = 0; value = pos 0; words = 0 }) ea eb
       ∙ ap (λ (x : Answer). answerC (answerOf x)) (sym e)
 
-  pub refused-column : (r : Opened) → r ≡ Opened.Refused why
+  pub refused-column : (r : Opening) → r ≡ Opening.Refused why
       → _≡_ {A = CColumn}
-      (record { refusal = a; number = b; count = 0; power = 0; «id_bytes» = 0; «jump_count» = 0; bits = 0; least = 0; step = 0; «value_bytes» = 0; start = 0 })
+      (record {
+        refusal = a;
+        number = b;
+        edition = 0;
+        count = 0;
+        power = 0;
+        «id_bytes» = 0;
+        «jump_count» = 0;
+        width = 0;
+        smallest = 0;
+        divisor = 0;
+        «value_bytes» = 0;
+        start = 0;
+      })
       (columnC (openedOf r))
   refused-column r e =
       ap₂ {C = CColumn}
       (λ (x y : ℕ). record {
         refusal = x;
         number = y;
+        edition = 0;
         count = 0;
         power = 0;
         «id_bytes» = 0;
         «jump_count» = 0;
-        bits = 0;
-        least = 0;
-        step = 0;
+        width = 0;
+        smallest = 0;
+        divisor = 0;
         «value_bytes» = 0;
         start = 0;
       })
       ea eb
-      ∙ ap (λ (x : Opened). columnC (openedOf x)) (sym e)
+      ∙ ap (λ (x : Opening). columnC (openedOf x)) (sym e)
+
+-- ---- no edition
+
+-- a refusal counts no words
+pub few-unknown : (p id : ℕ) → FewWords p (unknownC id)
+unfolding need
+few-unknown p id = go (leb id maxId)
+  where
+    go : (t : Bool) → FewWords p (need t ID 0 (refused HEADER 0))
+    go true = tt
+    go false = tt

@@ -1,9 +1,14 @@
 -- What crosses the C boundary for each outcome of a call (include/signalfern.h says the same in words). Fields that a case leaves
 -- free hold 0. Assumes nothing.
 use Prim.Native.Nat.{ℕ}
+use mathlib.Core.List.{List}
+use mathlib.Core.Option.{Option, none, some}
+use lib.Dec.{leb}
 use lib.IntN.{pos}
-use Rattle.format.specs.Refusals.{Outcome, done, refused}
-use Rattle.format.specs.LookUp.{Look, found, absent}
+use Rattle.format.specs.Limits.{maxId}
+use Rattle.format.specs.Refusals.{Outcome, done, refused, need, HEADER, ID}
+use Rattle.format.specs.LookUp.{Look, found, absent, lookUpIn}
+use Rattle.format.specs.Editions.{Edition, numberOf, editions, editionIn}
 use Rattle.format.specs.Opening as Op
 use Rattle.signalfern_c.specs.declared.CReply.{CReply}
 use Rattle.signalfern_c.specs.declared.CAnswer.{CAnswer}
@@ -26,13 +31,14 @@ columnC (done c) =
     record {
       refusal = 0;
       number = 0;
+      edition = numberOf (c .head .edition);
       count = c .head .count;
       power = c .head .power;
       «id_bytes» = c .head .idBytes;
       «jump_count» = c .head .jumpCount;
-      bits = c .head .bits;
-      least = c .head .least;
-      step = c .head .step;
+      width = c .head .fields .width;
+      smallest = c .head .fields .smallest;
+      divisor = c .head .fields .divisor;
       «value_bytes» = c .head .valueBytes;
       start = c .start;
     }
@@ -40,31 +46,42 @@ columnC (refused why w) =
     record {
       refusal = why;
       number = w;
+      edition = 0;
       count = 0;
       power = 0;
       «id_bytes» = 0;
       «jump_count» = 0;
-      bits = 0;
-      least = 0;
-      step = 0;
+      width = 0;
+      smallest = 0;
+      divisor = 0;
       «value_bytes» = 0;
       start = 0;
     }
 
 -- a column handed in goes by its numbers alone
-abbrev pub openedC : CColumn → Op.Opened
-openedC c =
+abbrev pub openedAs : Edition → CColumn → Op.Opened
+openedAs ed c =
     record {
       head =
           record {
+            edition = ed;
             count = c .count;
             power = c .power;
             idBytes = c .«id_bytes»;
             jumpCount = c .«jump_count»;
-            bits = c .bits;
-            least = c .least;
-            step = c .step;
+            fields = record { width = c .width; smallest = c .smallest; divisor = c .divisor };
             valueBytes = c .«value_bytes»;
           };
       start = c .start;
     }
+
+-- and where its edition number is none, a header rule is broken
+abbrev pub unknownC : ℕ → Outcome Look
+unknownC id = need (leb id maxId) ID 0 (refused HEADER 0)
+
+abbrev pub knownC : List ℕ → CColumn → ℕ → Option Edition → Outcome Look
+knownC bytes c id (some ed) = lookUpIn bytes (openedAs ed c) id
+knownC bytes c id none = unknownC id
+
+abbrev pub lookUpInC : List ℕ → CColumn → ℕ → Outcome Look
+lookUpInC bytes c id = knownC bytes c id (editionIn editions (c .edition))

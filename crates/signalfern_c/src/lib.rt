@@ -5,17 +5,22 @@ ghost use lib.ListN.{length};
 ghost use Rattle.format.specs.Writer.{write, writeReply, writeOut};
 ghost use Rattle.format.specs.Check.{check, reading, readReply, idsAfter, valuesAfter};
 ghost use Rattle.format.specs.Refusals.{done};
+ghost use Rattle.format.specs.Editions.{editions};
 ghost use Rattle.format.specs.Opening as Op;
 ghost use Rattle.format.specs.Opening.{openColumn};
-ghost use Rattle.format.specs.LookUp.{lookUp, lookUpIn};
+ghost use Rattle.format.specs.LookUp.{lookUp};
 ghost use Rattle.format.specs.Walk.{FewWords};
 ghost use Rattle.format.specs.Replies.{replyOf, answerOf};
 ghost use Rattle.column.specs.Opened.{openedOf};
-ghost use Rattle.signalfern_c.specs.Boundary.{replyC, answerC, columnC, openedC};
+ghost use Rattle.signalfern_c.specs.Boundary.{replyC, answerC, columnC, unknownC, lookUpInC};
 use column::Column;
-use column::Opened;
+use column::Head;
+use column::Known;
+use column::Opening;
 use format::Answer;
+use format::Refusal;
 use format::Reply;
+use values::Fields;
 
 // signalfern_reply
 #[repr(C)]
@@ -39,13 +44,14 @@ pub struct CAnswer {
 pub struct CColumn {
     pub refusal: u64,
     pub number: u64,
+    pub edition: u64,
     pub count: u64,
     pub power: u64,
     pub id_bytes: u64,
     pub jump_count: u64,
-    pub bits: u64,
-    pub least: u64,
-    pub step: u64,
+    pub width: u64,
+    pub smallest: u64,
+    pub divisor: u64,
     pub value_bytes: u64,
     pub start: u64,
 }
@@ -97,33 +103,40 @@ fn answer_c(answer: Answer) -> CAnswer
     }
 }
 
-fn column_c(opened: Opened) -> CColumn
+fn column_c(opened: Opening) -> CColumn
     ensures { λ r. ⌜ r ≡ columnC (openedOf opened) ⌝ }
 {
     match opened {
-        Opened::Open(c) => CColumn {
-            refusal: 0,
-            number: 0,
-            count: c.count,
-            power: c.power,
-            id_bytes: c.id_bytes,
-            jump_count: c.jump_count,
-            bits: c.bits,
-            least: c.least,
-            step: c.step,
-            value_bytes: c.value_bytes,
-            start: c.start,
-        },
-        Opened::Refused(why) => CColumn {
+        Opening::Open(c) => {
+            let h = c.head;
+            let edition = h.edition;
+            let f = h.fields;
+            CColumn {
+                refusal: 0,
+                number: 0,
+                edition: column::number_of(edition),
+                count: h.count,
+                power: h.power,
+                id_bytes: h.id_bytes,
+                jump_count: h.jump_count,
+                width: f.width,
+                smallest: f.smallest,
+                divisor: f.divisor,
+                value_bytes: h.value_bytes,
+                start: c.start,
+            }
+        }
+        Opening::Refused(why) => CColumn {
             refusal: why.number(),
             number: why.number_with(),
+            edition: 0,
             count: 0,
             power: 0,
             id_bytes: 0,
             jump_count: 0,
-            bits: 0,
-            least: 0,
-            step: 0,
+            width: 0,
+            smallest: 0,
+            divisor: 0,
             value_bytes: 0,
             start: 0,
         },
@@ -148,7 +161,7 @@ pub extern "C" fn signalfern_write(
 
 #[no_mangle]
 pub extern "C" fn signalfern_check(bytes: &[u8]) -> CReply
-    ensures { λ r. ⌜ r ≡ replyC (check (now (bytes .entry))) ⌝ }
+    ensures { λ r. ⌜ r ≡ replyC (check editions (now (bytes .entry))) ⌝ }
 {
     let reply = signalfern::check(bytes);
     reply_c(reply)
@@ -156,13 +169,13 @@ pub extern "C" fn signalfern_check(bytes: &[u8]) -> CReply
 
 #[no_mangle]
 pub extern "C" fn signalfern_read(bytes: &[u8], ids: &mut [u32], values: &mut [i64]) -> CReply
-    ensures replies { λ r. ⌜ r ≡ replyC (readReply (reading (now (bytes .entry)) (length (now (ids .entry))) (length (now (values .entry))))) ⌝ }
+    ensures replies { λ r. ⌜ r ≡ replyC (readReply (reading editions (now (bytes .entry)) (length (now (ids .entry))) (length (now (values .entry))))) ⌝ }
     ensures filled { λ _.
         ⌜ now (ids .exit)
-        ≡ idsAfter (reading (now (bytes .entry)) (length (now (ids .entry))) (length (now (values .entry)))) (now (ids .entry)) ⌝ }
+        ≡ idsAfter (reading editions (now (bytes .entry)) (length (now (ids .entry))) (length (now (values .entry)))) (now (ids .entry)) ⌝ }
     ensures valued { λ _.
         ⌜ now (values .exit)
-        ≡ valuesAfter (reading (now (bytes .entry)) (length (now (ids .entry))) (length (now (values .entry)))) (now (values .entry)) ⌝ }
+        ≡ valuesAfter (reading editions (now (bytes .entry)) (length (now (ids .entry))) (length (now (values .entry)))) (now (values .entry)) ⌝ }
 {
     let reply = signalfern::read(bytes, ids, values);
     reply_c(reply)
@@ -170,8 +183,8 @@ pub extern "C" fn signalfern_read(bytes: &[u8], ids: &mut [u32], values: &mut [i
 
 #[no_mangle]
 pub extern "C" fn signalfern_look_up(bytes: &[u8], id: u32) -> CAnswer
-    ensures answers { λ r. ⌜ r ≡ answerC (lookUp (now (bytes .entry)) id) ⌝ }
-    ensures words { λ _. ⌜ ((c : Op.Opened) → openColumn (now (bytes .entry)) ≡ done c → FewWords (c .head .power) (lookUp (now (bytes .entry)) id)) ⌝ }
+    ensures answers { λ r. ⌜ r ≡ answerC (lookUp editions (now (bytes .entry)) id) ⌝ }
+    ensures words { λ _. ⌜ ((c : Op.Opened) → openColumn editions (now (bytes .entry)) ≡ done c → FewWords (c .head .power) (lookUp editions (now (bytes .entry)) id)) ⌝ }
 {
     let answer = signalfern::look_up(bytes, id);
     answer_c(answer)
@@ -179,26 +192,45 @@ pub extern "C" fn signalfern_look_up(bytes: &[u8], id: u32) -> CAnswer
 
 #[no_mangle]
 pub extern "C" fn signalfern_open(bytes: &[u8]) -> CColumn
-    ensures { λ r. ⌜ r ≡ columnC (openColumn (now (bytes .entry))) ⌝ }
+    ensures { λ r. ⌜ r ≡ columnC (openColumn editions (now (bytes .entry))) ⌝ }
 {
     let opened = Column::open(bytes);
     column_c(opened)
 }
 
+// Where a column's edition number is none.
+fn no_edition(id: u32) -> Answer
+    ensures { λ r. ⌜ answerOf r ≡ unknownC id ⌝ }
+{
+    if column::id_ok(id) {
+        return Answer::Refused(Refusal::Header);
+    }
+    Answer::Refused(Refusal::Id)
+}
+
 #[no_mangle]
 pub extern "C" fn signalfern_look_up_in(column: CColumn, bytes: &[u8], id: u32) -> CAnswer
-    ensures answers { λ r. ⌜ r ≡ answerC (lookUpIn (now (bytes .entry)) (openedC column) id) ⌝ }
-    ensures words { λ _. ⌜ FewWords (column .power) (lookUpIn (now (bytes .entry)) (openedC column) id) ⌝ }
+    ensures answers { λ r. ⌜ r ≡ answerC (lookUpInC (now (bytes .entry)) column id) ⌝ }
+    ensures words { λ _. ⌜ FewWords (column .power) (lookUpInC (now (bytes .entry)) column id) ⌝ }
 {
+    let Known::Is(edition) = column::edition_in(column.edition) else {
+        let answer = no_edition(id);
+        return answer_c(answer);
+    };
     let c = Column {
-        count: column.count,
-        power: column.power,
-        id_bytes: column.id_bytes,
-        jump_count: column.jump_count,
-        bits: column.bits,
-        least: column.least,
-        step: column.step,
-        value_bytes: column.value_bytes,
+        head: Head {
+            edition,
+            count: column.count,
+            power: column.power,
+            id_bytes: column.id_bytes,
+            jump_count: column.jump_count,
+            fields: Fields {
+                width: column.width,
+                smallest: column.smallest,
+                divisor: column.divisor,
+            },
+            value_bytes: column.value_bytes,
+        },
         start: column.start,
     };
     let answer = signalfern::look_up_in(c, bytes, id);

@@ -5,9 +5,14 @@ use crate::{power_allowed, values, Refusal, MAX_COUNT, MAX_JUMPS, MAX_WIDTH};
 /// The longest header: nine numbers of ten bytes.
 const LONGEST: usize = 90;
 
+/// The edition that document 01 lays down.
+pub(crate) const EDITION: u64 = 1;
+
 /// The header's numbers after the edition, and where the id section starts.
 #[derive(Clone, Copy, Debug, Default, PartialEq, Eq)]
 pub struct Column {
+    /// The edition.
+    pub edition: u64,
     /// n, the count of pairs.
     pub count: u64,
     /// p, the rank power.
@@ -17,11 +22,11 @@ pub struct Column {
     /// J, the count of jump entries.
     pub jump_count: u64,
     /// w, the width of a stored number.
-    pub bits: u64,
+    pub width: u64,
     /// The smallest value as the header holds it: 2v, or -2v-1 below 0.
-    pub least: u64,
+    pub smallest_number: u64,
     /// g, the divisor.
-    pub step: u64,
+    pub divisor: u64,
     /// V, the bytes of the value section.
     pub value_bytes: u64,
     /// Bytes of the header.
@@ -34,14 +39,14 @@ impl Column {
         let mut out = [0; LONGEST];
         let mut len = 0;
         let numbers = [
-            1,
+            self.edition,
             self.count,
             self.power,
             self.id_bytes,
             self.jump_count,
-            self.bits,
-            self.least,
-            self.step,
+            self.width,
+            self.smallest_number,
+            self.divisor,
             self.value_bytes,
         ];
         for mut number in numbers {
@@ -58,13 +63,14 @@ impl Column {
 
     /// "Header rules".
     pub(crate) fn keeps_the_rules(&self) -> bool {
-        self.count <= MAX_COUNT
+        self.edition == EDITION
+            && self.count <= MAX_COUNT
             && power_allowed(self.power)
             && self.jump_count <= MAX_JUMPS
-            && self.bits <= MAX_WIDTH
-            && self.step >= 1
+            && self.width <= MAX_WIDTH
+            && self.divisor >= 1
             && self.id_bytes >= 6 + 8 * self.jump_count
-            && self.value_bytes == values::section_bytes(self.count, self.bits)
+            && self.value_bytes == values::section_bytes(self.count, self.width)
     }
 
     /// Whether header + L + V is the byte count; the sum can pass 2^64.
@@ -81,7 +87,7 @@ impl Column {
     }
 
     pub(crate) fn smallest(&self) -> i64 {
-        (self.least >> 1) as i64 ^ -((self.least & 1) as i64)
+        (self.smallest_number >> 1) as i64 ^ -((self.smallest_number & 1) as i64)
     }
 }
 
@@ -113,18 +119,20 @@ fn take_number(bytes: &mut &[u8]) -> Result<u64, Refusal> {
 /// Reads the header: refusals 7 to 11.
 pub fn open(bytes: &[u8]) -> Result<Column, Refusal> {
     let mut rest = bytes;
-    if take_number(&mut rest)? != 1 {
+    let edition = take_number(&mut rest)?;
+    if edition != EDITION {
         return Err(Refusal::EDITION);
     }
     let mut next = || take_number(&mut rest);
     let mut column = Column {
+        edition,
         count: next()?,
         power: next()?,
         id_bytes: next()?,
         jump_count: next()?,
-        bits: next()?,
-        least: next()?,
-        step: next()?,
+        width: next()?,
+        smallest_number: next()?,
+        divisor: next()?,
         value_bytes: next()?,
         start: 0,
     };

@@ -107,13 +107,14 @@ pub fn write(ids: &[u32], values: &[i64], power: u32, out: &mut [u8]) -> Result<
     let layout = ids::Layout::of(ids, power)?;
     let plan = values::Plan::of(values);
     let column = Column {
+        edition: header::EDITION,
         count: ids.len() as u64,
         power: u64::from(power),
         id_bytes: layout.bytes(),
         jump_count: layout.jump_count(),
-        bits: u64::from(plan.width),
-        least: header::zigzag(plan.smallest),
-        step: plan.divisor,
+        width: u64::from(plan.width),
+        smallest_number: header::zigzag(plan.smallest),
+        divisor: plan.divisor,
         value_bytes: values::section_bytes(ids.len() as u64, u64::from(plan.width)),
         start: 0,
     };

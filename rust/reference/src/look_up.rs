@@ -80,7 +80,7 @@ fn steps(column: &Column, bytes: &[u8], id: u32) -> Result<Answer, Refusal> {
     }
     // 7: the value.
     let ordinal = ordinal + inner as u64;
-    let stored = fetch(values, column.bits as u32, ordinal as usize);
+    let stored = fetch(values, column.width as u32, ordinal as usize);
     let value = value_of(column, stored).ok_or(Refusal::BROKEN)?;
     Ok(Answer::Found {
         ordinal,

@@ -114,19 +114,19 @@ pub(crate) fn fetch(section: &[u8], width: u32, i: usize) -> u64 {
 /// smallest + g times the stored number, if it fits in a signed 64-bit number.
 #[inline]
 pub(crate) fn value_of(column: &Column, stored: u64) -> Option<i64> {
-    let offset = column.step.checked_mul(stored)?;
+    let offset = column.divisor.checked_mul(stored)?;
     column.smallest().checked_add_unsigned(offset)
 }
 
 /// All values, of a section known to be sound.
 pub(crate) fn read(column: &Column, section: &[u8], values: &mut [i64]) {
-    let (smallest, width) = (column.smallest(), column.bits as u32);
+    let (smallest, width) = (column.smallest(), column.width as u32);
     if width == 0 {
         values.fill(smallest);
         return;
     }
     for (i, value) in values.iter_mut().enumerate() {
-        let offset = column.step.wrapping_mul(fetch(section, width, i));
+        let offset = column.divisor.wrapping_mul(fetch(section, width, i));
         *value = smallest.wrapping_add_unsigned(offset);
     }
 }
@@ -134,10 +134,10 @@ pub(crate) fn read(column: &Column, section: &[u8], values: &mut [i64]) {
 /// Whether the section, with the header's smallest value, divisor and width, is what the writer
 /// makes of the values that it stands for.
 pub(crate) fn sound(column: &Column, section: &[u8]) -> bool {
-    let (count, width) = (column.count as usize, column.bits as u32);
+    let (count, width) = (column.count as usize, column.width as u32);
     if width == 0 {
         // All values are equal, or there are none.
-        return column.step == 1 && (count > 0 || column.least == 0);
+        return column.divisor == 1 && (count > 0 || column.smallest_number == 0);
     }
     let spare = section.len() * 8 - count * width as usize;
     let spare_clear = section
@@ -152,7 +152,7 @@ pub(crate) fn sound(column: &Column, section: &[u8]) -> bool {
         high = high.max(stored);
         if divisor != 1 {
             // A value that wraps is above the greatest one that fits: `value_of` tells below.
-            let value = smallest.wrapping_add_unsigned(column.step.wrapping_mul(stored));
+            let value = smallest.wrapping_add_unsigned(column.divisor.wrapping_mul(stored));
             divisor = gcd(divisor, value.unsigned_abs());
         }
     }
@@ -160,5 +160,5 @@ pub(crate) fn sound(column: &Column, section: &[u8]) -> bool {
         && low == 0
         && high >> (width - 1) == 1
         && value_of(column, high).is_some()
-        && divisor == column.step
+        && divisor == column.divisor
 }

@@ -166,19 +166,20 @@ pub fn look_up_in(header: Header, bytes: &[u8], id: u32) -> Result<Answer, Refus
 
 fn to_reference(header: Header) -> reference::Column {
     let smallest = i128::from(header.smallest);
-    let least = if smallest < 0 {
+    let smallest_number = if smallest < 0 {
         -2 * smallest - 1
     } else {
         2 * smallest
     };
     reference::Column {
+        edition: header.edition,
         count: header.count,
         power: header.power,
         id_bytes: header.id_bytes,
         jump_count: header.jump_count,
-        bits: header.width,
-        least: least as u64,
-        step: header.divisor,
+        width: header.width,
+        smallest_number: smallest_number as u64,
+        divisor: header.divisor,
         value_bytes: header.value_bytes,
         start: header.start,
     }

@@ -20,5 +20,4 @@ returns c =
     cc (block-is (a .part .now) (a .out .now) (a .p) (a .at))
 
 pub put-block-spec : {M : Type 1} → statement M
-put-block-spec =
-    tie.close (tie.spec put-head-requires (λ c. search needs) (λ c κs. search needs) (λ c. search needs) returns)
+put-block-spec = tie.close (tie.spec put-head-requires (λ c. search needs) (λ c κs. search needs) (λ c. search needs) returns)

@@ -15,12 +15,6 @@ Inv-loop part p out₀ at stride strides base t₀ k₀ m₀ sum₀ out t k m su
 abbrev μ-loop : tie.MeasureT-loop
 μ-loop part p out₀ at stride strides base t₀ k₀ m₀ sum₀ out t k m sum = strides - t
 
-mul-base : tie.Need-mul-base Inv-loop μ-loop
-mul-base c = let s = c .before .before .before .before in omega (arith, ranks-some (s .args .p) (s .pre .2) (λ e. omega arith) .0)
-
-add-base : tie.Need-add-base Inv-loop μ-loop
-add-base c = let s = c .before .before .before .before in omega (arith, ranks-some (s .args .p) (s .pre .2) (λ e. omega arith) .0)
-
 loop-holds : tie.Need-loop-holds Inv-loop μ-loop
 loop-holds c =
     let s = c .before .before .before .before in
@@ -46,9 +40,6 @@ add-sum c =
     let i = c .before .before .before .before .before .before .before .before .before in
     omega (arith, i .before .loop .inv .small, c .before .before .before .put-words .ensures .2, fits i)
 
-add-k : tie.Need-add-k Inv-loop μ-loop
-add-k c = omega (arith, fits (c .before .before .before .before .before .before .before .before .before))
-
 loop-again : tie.Need-loop-again Inv-loop μ-loop
 loop-again c =
     let w = c .before .before .before .put-words in
@@ -57,30 +48,20 @@ loop-again c =
     more (i .before .loop .inv) (i .loop-test .taken) (r .ensures) (r .kept .0)
     (w .ensures .0) (w .kept .1 .1 .1 .1 .0) (w .ensures .1) (w .ensures .2) (w .ensures .3)
 
-returns : tie.Need-returns Inv-loop μ-loop
-returns c = end (c .before .loop .inv) (omega arith)
-
 pub put-ranked-spec : {M : Type 1} → statement M
 put-ranked-spec =
     tie.close
-    (tie.spec
-    Inv-loop
-    μ-loop
-    (λ c κs. search needs)
-    (λ c κs. search needs)
-    mul-base
-    add-base
+    (tie.spec Inv-loop μ-loop
+    (λ c κs. search needs) (λ c κs. search needs)
+    (λ c. let s = c .before .before .before .before in omega (arith, ranks-some (s .args .p) (s .pre .2) (λ e. omega arith) .0))
+    (λ c. let s = c .before .before .before .before in omega (arith, ranks-some (s .args .p) (s .pre .2) (λ e. omega arith) .0))
     loop-holds
-    (λ c. search needs)
-    (λ c. search needs)
-    (λ c κs. search needs)
-    (λ c. search needs)
+    (λ c. search needs) (λ c. search needs) (λ c κs. search needs) (λ c. search needs)
     add-put-words
     put-words-requires
     add-sum
-    add-k
-    (λ c. search needs)
-    (λ c. search needs)
+    (λ c. omega (arith, fits (c .before .before .before .before .before .before .before .before .before)))
+    (λ c. search needs) (λ c. search needs)
     loop-again
     (λ c. search needs)
-    returns)
+    (λ c. end (c .before .loop .inv) (omega arith)))

@@ -14,9 +14,6 @@ Inv-loop part from k n out₀ at t₀ m₀ sum₀ out t m sum = Lain part from k
 abbrev μ-loop : tie.MeasureT-loop
 μ-loop part from k n out₀ at t₀ m₀ sum₀ out t m sum = n - t
 
-loop-holds : tie.Need-loop-holds Inv-loop μ-loop
-loop-holds c = none (c .before .before .pre .0)
-
 loop-again : tie.Need-loop-again Inv-loop μ-loop
 loop-again c =
     let o = c .before .before .before .put-long in
@@ -39,19 +36,10 @@ returns c =
 pub put-words-spec : {M : Type 1} → statement M
 put-words-spec =
     tie.close
-    (tie.spec
-    Inv-loop
-    μ-loop
-    loop-holds
-    (λ c. search needs)
-    (λ c κs. search needs)
-    (λ c. search needs)
-    (λ c. search needs)
-    (λ c κs. search needs)
-    (λ c κs. search needs)
-    (λ c. search needs)
-    (λ c. search needs)
-    (λ c. search needs)
+    (tie.spec Inv-loop μ-loop
+    (λ c. none (c .before .before .pre .0))
+    (λ c. search needs) (λ c κs. search needs) (λ c. search needs) (λ c. search needs) (λ c κs. search needs)
+    (λ c κs. search needs) (λ c. search needs) (λ c. search needs) (λ c. search needs)
     loop-again
     (λ c. search needs)
     returns)

@@ -15,9 +15,6 @@ Inv-loop part from k bits₀ m₀ bits m = Gathered part from k bits m
 abbrev μ-loop : tie.MeasureT-loop
 μ-loop part from k bits₀ m₀ bits m = length part - m
 
-loop-holds : tie.Need-loop-holds Inv-loop μ-loop
-loop-holds c = start (c .before .pre .0)
-
 returns : tie.Need-returns Inv-loop μ-loop
 returns c =
     let i = c .before .before .before in
@@ -36,23 +33,15 @@ loop-again c =
     let i = c .before .before .before .before in
     rw (c .pow2 .ensures) (more (i .before .loop .inv) (i .loop-test .taken) (c .before .before .place-of .ensures .0) (omega arith))
 
-returns-2 : tie.Need-returns-2 Inv-loop μ-loop
-returns-2 c = let inv = c .before .loop .inv in done inv (at-end inv (omega arith))
-
 pub word-of-spec : {M : Type 1} → statement M
 word-of-spec =
     tie.close
-    (tie.spec
-    Inv-loop
-    μ-loop
-    loop-holds
-    (λ c. search needs)
-    (λ c. search needs)
-    (λ c κs. search needs)
+    (tie.spec Inv-loop μ-loop
+    (λ c. start (c .before .pre .0))
+    (λ c. search needs) (λ c. search needs) (λ c κs. search needs)
     returns
     (λ c κs. search needs)
     add-bits
-    (λ c. search needs)
-    (λ c. search needs)
+    (λ c. search needs) (λ c. search needs)
     loop-again
-    returns-2)
+    (λ c. let inv = c .before .loop .inv in done inv (at-end inv (omega arith))))

@@ -16,9 +16,6 @@ Inv-loop s m n first sum₀ i₀ sum i = (sum + onesFrom s m (n - i) (first + i)
 abbrev μ-loop : tie.MeasureT-loop
 μ-loop s m n first sum₀ i₀ sum i = n - i
 
-loop-holds : tie.Need-loop-holds Inv-loop μ-loop
-loop-holds c = let a = c .before .args in (zero-add _ ∙ ones-begin (a .s .now) (a .m) (a .n) (a .first), omega arith, omega arith)
-
 loop-again : tie.Need-loop-again Inv-loop μ-loop
 loop-again c =
     let a = c .before .before .before .before .before .args in
@@ -35,17 +32,9 @@ returns c =
 pub ones-from-spec : {M : Type 1} → statement M
 ones-from-spec =
     tie.close
-    (tie.spec
-    Inv-loop
-    μ-loop
-    loop-holds
-    (λ c. search needs)
-    (λ c. search needs)
-    (λ c. search needs)
-    (λ c κs. search needs)
-    (λ c κs. search needs)
-    (λ c. search needs)
-    (λ c. search needs)
-    (λ c. search needs)
+    (tie.spec Inv-loop μ-loop
+    (λ c. let a = c .before .args in (zero-add _ ∙ ones-begin (a .s .now) (a .m) (a .n) (a .first), omega arith, omega arith))
+    (λ c. search needs) (λ c. search needs) (λ c. search needs) (λ c κs. search needs) (λ c κs. search needs) (λ c. search needs)
+    (λ c. search needs) (λ c. search needs)
     loop-again
     returns)

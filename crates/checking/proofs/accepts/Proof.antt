@@ -1,69 +1,69 @@
 -- `checking::accepts` meets its contract. Assumes nothing.
-use mathlib.Core.Path.{_≡_, _∙_}
+use borrow.Author.Needs.{needs}
+use mathlib.Core.Path.{_≡_, ap, _∙_}
 use native.Mathlib.Omega.{arith}
 use borrow.Author.Tests.{not-true, not-false}
-use Rattle.format.specs.Check.{pairsIn, isColumn}
+use Rattle.format.specs.Editions.{editions, codec}
+use Rattle.format.specs.Rules.{Sound}
+use Rattle.format.specs.Check.{accepted}
 use Rattle.format.proofs.Digits.{below-all}
-use Rattle.checking.specs.Tests.{columnOk}
+use Rattle.format.proofs.Open.{sound}
+use Rattle.column.specs.Opened.{columnOf}
+use Rattle.checking.specs.Tests.{columnOk, isTaken}
 use Rattle.checking.proofs.Taken.{column-ok}
 use Rattle.checking.proofs.Steps.{values-long, ids-fail, ids-pass}
-use Rattle.column.specs.Opened.{columnOf}
-use Rattle.format.specs.Rules.{Sound}
-use Rattle.format.proofs.Open.{sound}
-use borrow.Author.Needs.{needs}
 use Rattle.checking.proofs.accepts.Statement.{statement}
 use Rattle.checking.proofs.accepts.Tie as tie
 
 opened : (c : tie.Start) → Sound (c .args .bytes .now) (columnOf (c .args .c))
-opened c = sound (c .args .bytes .now) (columnOf (c .args .c)) (c .pre)
+opened c = sound editions (c .args .bytes .now) (columnOf (c .args .c)) (c .pre)
 
 -- the tests say what the definition says
 tested : (c : tie.After-shared-slice-known)
-    → let bs = c .before .args .bytes .now in
-    let o = columnOf (c .before .args .c) in
-    columnOk bs o ≡ isColumn bs (o .head .power) (pairsIn bs o)
+    → let bs = c .before .args .bytes .now in let o = columnOf (c .before .args .c) in columnOk bs o ≡ isTaken (accepted bs o)
 tested c =
     let st = c .before in
     let bs = st .args .bytes .now in
     column-ok bs (columnOf (st .args .c)) (below-all 256 bs (λ i. c .shared-slice-known .given i .fits)) (st .pre)
-    (st .good .1 .0 .1 .1 .1 .1 .1 .1 .1 .0 .1)
 
 add-end : tie.Need-add-end
-add-end c = omega (arith, opened (c .before .before .before) .whole, c .before .size .ensures, c .size2 .ensures, c .before .before .before .good .0 .0)
+add-end c = omega (arith, opened (c .before .before .before .before) .whole, c .before .size .ensures, c .size2 .ensures, c .before .before .before .before .good .0 .0)
 
 part-ids-ok-end : tie.Need-part-ids-ok-end
-part-ids-ok-end c = omega (arith, opened (c .before .before .before) .whole, c .before .size .ensures, c .size2 .ensures)
+part-ids-ok-end c = omega (arith, opened (c .before .before .before .before) .whole, c .before .size .ensures, c .size2 .ensures)
 
 ids-ok-requires : tie.Need-ids-ok-requires
-ids-ok-requires c κs = opened (c .before .before .before .before) .facts
+ids-ok-requires c κs = opened (c .before .before .before .before .before) .facts
 
 returns : tie.Need-returns
 returns c =
     let q = c .before .before .before in
-    ids-fail _ _ _ _ (q .before .size .ensures) (q .size2 .ensures) (c .before .ids-ok .ensures) (not-true _ (c .if1 .taken)) ∙ tested (q .before .before)
+    ids-fail _ _ _ _ (q .before .size .ensures) (q .size2 .ensures) (c .before .ids-ok .ensures) (not-true _ (c .if1 .taken)) ∙ tested (q .before .before .before)
 
-sub-values-ok : tie.Need-sub-values-ok
-sub-values-ok c =
-    let q = c .before .before .before in
-    omega (arith, opened (q .before .before .before) .whole, q .before .size .ensures, q .size2 .ensures)
-
-part-values-ok-start : tie.Need-part-values-ok-start
-part-values-ok-start c =
-    let q = c .before .before .before in
-    omega (arith, opened (q .before .before .before) .whole, q .before .size .ensures, q .size2 .ensures)
-
-values-ok-requires : tie.Need-values-ok-requires
-values-ok-requires c κs =
+sub-check : tie.Need-sub-check
+sub-check c =
     let q = c .before .before .before .before in
-    let st = q .before .before .before in
-    (opened st .facts, values-long _ (columnOf (st .args .c)) _ _ (q .before .size .ensures) (q .size2 .ensures) (st .pre))
+    omega (arith, opened (q .before .before .before .before) .whole, q .before .size .ensures, q .size2 .ensures)
+
+part-check-start : tie.Need-part-check-start
+part-check-start c =
+    let q = c .before .before .before .before in
+    omega (arith, opened (q .before .before .before .before) .whole, q .before .size .ensures, q .size2 .ensures)
+
+check-requires : tie.Need-check-requires
+check-requires c κs =
+    let q = c .before .before .before .before .before in
+    let st = q .before .before .before .before in
+    let h = columnOf (st .args .c) .head in
+    let f = opened st .facts in
+    (f .count, ap (codec (h .edition) .fieldsOk (h .count) (h .fields)) (values-long _ (columnOf (st .args .c)) _ _ (q .before .size .ensures) (q .size2 .ensures) (st .pre)) ∙ f .fields)
 
 returns-2 : tie.Need-returns-2
 returns-2 c =
-    let q = c .before .before .before .before .before in
-    let t = c .before .before .before .ids-ok in
-    ids-pass _ _ _ _ (q .before .size .ensures) (q .size2 .ensures) (t .ensures) (not-false _ (c .before .before .if1 .left)) (c .values-ok .ensures)
-    ∙ tested (q .before .before)
+    let t = c .before .before .before .before in
+    let q = t .before .before in
+    ids-pass _ _ _ _ (q .before .size .ensures) (q .size2 .ensures) (t .ids-ok .ensures) (not-false _ (c .before .before .before .if1 .left)) (c .check .ensures)
+    ∙ tested (q .before .before .before)
 
 pub accepts-spec : {M : Type 1} → statement M
 accepts-spec =
@@ -77,8 +77,8 @@ accepts-spec =
     part-ids-ok-end
     ids-ok-requires
     returns
-    sub-values-ok
-    part-values-ok-start
+    sub-check
+    part-check-start
     (λ c. search needs)
-    values-ok-requires
+    check-requires
     returns-2)

@@ -26,10 +26,11 @@ returns-2 c =
 
 returns-3 : tie.Need-returns-3
 returns-3 c =
-    let v = c .before .before .before in
+    let a = c .before .before in
+    let v = a .before .before in
     let o = v .before .before in
     check-done (o .before .before .args .bytes .now) _ (opened-as _ (o .«open» .result) (v .c .given .0 .0) (o .«open» .ensures) (v .c .given .1))
-    (sym (c .before .accepts .ensures) ∙ not-false (c .before .accepts .result) (c .if1 .left))
+    (sym (a .accepts .ensures) ∙ not-false (a .accepts .result) (c .before .if1 .left))
 
 pub check-spec : {M : Type 1} → statement M
 check-spec =

@@ -2,7 +2,7 @@
 use mathlib.Core.Path.{sym, ap, _∙_, subst}
 use Rattle.format.specs.Limits.{Power}
 use Rattle.section_check.specs.Reasons.{verdictOf}
-use Rattle.column.specs.Opened.{columnOf}
+use Rattle.column.specs.Opened.{headIs}
 use Rattle.checking.specs.Tests.{holds}
 use Rattle.checking.proofs.Steps.{ids-judged}
 use borrow.Author.Needs.{needs}
@@ -17,7 +17,7 @@ unfolding holds
 returns c =
     let j = c .before .before .before .before in
     let st = j .before .before .before .before in
-    sym (ids-judged (columnOf (st .args .c) .head) (st .args .section .now) _ _ (j .before .before .size .ensures) (j .before .size2 .ensures) _
+    sym (ids-judged (headIs (st .args .h)) (st .args .section .now) _ _ (j .before .before .size .ensures) (j .before .size2 .ensures) _
     (sym (j .judge .ensures) ∙ ap verdictOf (c .before .before .n .given .1)))
 
 returns-2 : tie.Need-returns-2
@@ -25,7 +25,7 @@ unfolding holds
 returns-2 c =
     let j = c .before .before in
     let st = j .before .before .before .before in
-    sym (ids-judged (columnOf (st .args .c) .head) (st .args .section .now) _ _ (j .before .before .size .ensures) (j .before .size2 .ensures) _
+    sym (ids-judged (headIs (st .args .h)) (st .args .section .now) _ _ (j .before .before .size .ensures) (j .before .size2 .ensures) _
     (sym (j .judge .ensures) ∙ ap verdictOf (c .enum-told .given .1)))
 
 pub ids-ok-spec : {M : Type 1} → statement M

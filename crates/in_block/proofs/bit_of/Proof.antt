@@ -5,8 +5,5 @@ use borrow.Author.Needs.{needs}
 use Rattle.in_block.proofs.bit_of.Statement.{statement}
 use Rattle.in_block.proofs.bit_of.Tie as tie
 
-returns : tie.Need-returns
-returns c = and-mask (c .args .long / 2 ^ c .args .b) 1
-
 pub bit-of-spec : {M : Type 1} → statement M
-bit-of-spec = tie.close (tie.spec (λ c. search needs) returns)
+bit-of-spec = tie.close (tie.spec (λ c. search needs) (λ c. and-mask (c .args .long / 2 ^ c .args .b) 1))

@@ -18,30 +18,22 @@ inner-is : (c : tie.After-ones-under)
     c .before .before .stride-rank .result + c .before .ones-from .result + c .ones-under .result ≡ innerAt (a .p) (a .s .now) (a .t) (a .r)
 inner-is c = cc
 
-returns : tie.Need-returns
-returns c =
-    let a = c .before .before .before .before .before .args in
-    (sym (dense-clear (a .p) (a .s .now) (a .t) (a .count) (a .r) (sym (bit-is (c .before)) ∙ c .if1 .taken)), tt)
+bit-set : (c : tie.Else1)
+    → let a = c .before .before .before .before .before .args in longOf (a .p) (a .s .now) (a .t) (a .r) / 2 ^ (a .r % 64) % 2 ≡ 0 → ⊥
+bit-set c z = c .if1 .left (bit-is (c .before) ∙ z)
 
 returns-2 : tie.Need-returns-2
 returns-2 c =
     let a = c .before .before .before .before .before .before .before .before .before .before .before .before .args in
     let i = inner-is (c .before .before .before) in
     let w : c .long2 .result ≡ a .r / 64 - strideLong (a .p) (a .r) + 1 = cc in
-    let e =
-    dense-set (a .p) (a .s .now) (a .t) (a .count) (a .r) (λ z. c .before .before .before .before .before .before .before .if1 .left
-    (bit-is (c .before .before .before .before .before .before .before .before) ∙ z)) (omega arith) in
+    let e = dense-set (a .p) (a .s .now) (a .t) (a .count) (a .r) (bit-set (c .before .before .before .before .before .before .before)) (omega arith) in
     (ap₂ (λ (x y : ℕ). inside x y) i w ∙ sym e, omega arith)
 
 returns-3 : tie.Need-returns-3
 returns-3 c =
-    let a = c .before .before .before .before .before .before .before .before .before .before .before .args in
-    let i = inner-is (c .before .before) in (
-      sym (dense-broken (a .p) (a .s .now) (a .t) (a .count) (a .r)
-          (λ z. c .before .before .before .before .before .before .if1 .left (bit-is (c .before .before .before .before .before .before .before) ∙ z))
-          (omega arith)),
-      tt,
-    )
+    let i = inner-is (c .before .before) in
+    (sym (dense-broken _ _ _ _ _ (bit-set (c .before .before .before .before .before .before)) (omega arith)), tt)
 
 pub dense-spec : {M : Type 1} → statement M
 dense-spec =
@@ -53,7 +45,7 @@ dense-spec =
     (λ c. search needs)
     (λ c κs. search needs)
     (λ c κs. search needs)
-    returns
+    (λ c. (sym (dense-clear _ _ _ _ _ (sym (bit-is (c .before)) ∙ c .if1 .taken)), tt))
     (λ c κs. search needs)
     (λ c. search needs)
     (λ c κs. search needs)

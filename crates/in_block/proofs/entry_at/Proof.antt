@@ -6,31 +6,19 @@ use borrow.Author.Needs.{needs}
 use Rattle.in_block.proofs.entry_at.Statement.{statement}
 use Rattle.in_block.proofs.entry_at.Tie as tie
 
-cast-result : tie.Need-cast-result
-cast-result c = omega (arith, c .shared-slice-known .given (c .before .args .i))
-
-cast-result-2 : tie.Need-cast-result-2
-cast-result-2 c = omega (arith, c .shared-slice-known2 .given (c .before .before .args .i + 1))
-
-mul-result : tie.Need-mul-result
-mul-result c = omega (arith, c .shared-slice-known2 .given (c .before .before .args .i + 1))
-
 add-result-2 : tie.Need-add-result-2
 add-result-2 c =
     omega (arith, c .before .shared-slice-known .given (c .before .before .args .i), c .shared-slice-known2 .given (c .before .before .args .i + 1))
-
-returns : tie.Need-returns
-returns c = let a = c .before .before .args in omega (arith, short-is (a .s .now) (a .i) (omega arith))
 
 pub entry-at-spec : {M : Type 1} → statement M
 entry-at-spec =
     tie.close
     (tie.spec
     (λ c. search needs)
-    cast-result
+    (λ c. omega (arith, c .shared-slice-known .given (c .before .args .i)))
     (λ c. search needs)
     (λ c. search needs)
-    cast-result-2
-    mul-result
+    (λ c. omega (arith, c .shared-slice-known2 .given (c .before .before .args .i + 1)))
+    (λ c. omega (arith, c .shared-slice-known2 .given (c .before .before .args .i + 1)))
     add-result-2
-    returns)
+    (λ c. let a = c .before .before .args in omega (arith, short-is (a .s .now) (a .i) (omega arith))))

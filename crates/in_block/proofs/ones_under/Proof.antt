@@ -9,9 +9,6 @@ use borrow.Author.Needs.{needs}
 use Rattle.in_block.proofs.ones_under.Statement.{statement}
 use Rattle.in_block.proofs.ones_under.Tie as tie
 
-sub-ones-of : tie.Need-sub-ones-of
-sub-ones-of c = omega (arith, pow-pos (c .before .args .b))
-
 returns : tie.Need-returns
 returns c = let a = c .before .before .args in (
   c .ones-of .ensures .0 ∙ ap (λ (x : ℕ). onesIn 64 (bitAnd (a .long) (x - 1))) (c .before .pow2 .ensures) ∙ ap (onesIn 64) (and-mask (a .long) (a .b)),
@@ -19,4 +16,4 @@ returns c = let a = c .before .before .args in (
 )
 
 pub ones-under-spec : {M : Type 1} → statement M
-ones-under-spec = tie.close (tie.spec (λ c κs. search needs) sub-ones-of (λ c κs. search needs) returns)
+ones-under-spec = tie.close (tie.spec (λ c κs. search needs) (λ c. omega (arith, pow-pos (c .before .args .b))) (λ c κs. search needs) returns)

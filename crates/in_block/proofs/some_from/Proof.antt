@@ -18,9 +18,6 @@ Inv-loop s at r some₀ k₀ some k = (k ≤ 16) × (some ≡ false → (j : ℕ
 abbrev μ-loop : tie.MeasureT-loop
 μ-loop s at r some₀ k₀ some k = 16 - k
 
-loop-holds : tie.Need-loop-holds Inv-loop μ-loop
-loop-holds c = (omega arith, λ q j h. absurd (omega arith))
-
 loop-again : tie.Need-loop-again Inv-loop μ-loop
 loop-again c =
     let l = c .before .before .before .loop in
@@ -34,16 +31,13 @@ loop-again c =
           (λ m. let e : j ≡ l .k = omega arith in let y : x .result < a .r = leb-false _ _ (t .1) in rw e (omega (arith, x .ensures))),
     )
 
-returns : tie.Need-returns Inv-loop μ-loop
-returns c = λ q j h. c .before .loop .inv .1 q j (omega arith)
-
 pub some-from-spec : {M : Type 1} → statement M
 some-from-spec =
     tie.close
     (tie.spec
     Inv-loop
     μ-loop
-    loop-holds
+    (λ c. (omega arith, λ q j h. absurd (omega arith)))
     (λ c. search needs)
     (λ c. search needs)
     (λ c κs. search needs)
@@ -51,4 +45,4 @@ some-from-spec =
     (λ c. search needs)
     (λ c. search needs)
     loop-again
-    returns)
+    (λ c. λ q j h. c .before .loop .inv .1 q j (omega arith)))

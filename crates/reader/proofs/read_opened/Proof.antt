@@ -14,30 +14,30 @@ use Rattle.reader.proofs.read_opened.Tie as tie
 
 returns : tie.Need-returns
 returns c =
-    let s = c .before .before .before .before in
+    let s = c .before .before .before .before .before in
     let a = s .args in
     refused-so _ _ _ _ (a .ids .now) (a .values .now)
     (few-ids (a .bytes .now) (length (a .ids .now)) (length (a .values .now)) (columnOf (a .c)) (s .pre) (omega arith)) refl
 
 returns-2 : tie.Need-returns-2
 returns-2 c =
-    let s = c .before .before .before .before .before in
+    let s = c .before .before .before .before .before .before in
     let a = s .args in
     refused-so _ _ _ _ (a .ids .now) (a .values .now)
     (few-values (a .bytes .now) (length (a .ids .now)) (length (a .values .now)) (columnOf (a .c)) (s .pre) (omega arith) (omega arith)) refl
 
 returns-3 : tie.Need-returns-3
 returns-3 c =
-    let s = c .before .before .before .before .before .before .before in
+    let s = c .before .before .before .before .before .before .before .before in
     let a = s .args in
     refused-so _ _ _ _ (a .ids .now) (a .values .now)
     (enough (a .bytes .now) (length (a .ids .now)) (length (a .values .now)) (columnOf (a .c)) (s .pre) (omega arith) (omega arith)
     ∙ damaged (a .bytes .now) (columnOf (a .c)) (sym (c .before .accepts .ensures) ∙ not-true (c .before .accepts .result) (c .if3 .taken)))
     refl
 
-taken : (c : tie.Else3) → let a = c .before .before .before .before .before .before .before .args in Whole (a .bytes .now) (columnOf (a .c))
+taken : (c : tie.Else3) → let a = c .before .before .before .before .before .before .before .before .args in Whole (a .bytes .now) (columnOf (a .c))
 taken c =
-    let s = c .before .before .before .before .before .before .before in
+    let s = c .before .before .before .before .before .before .before .before in
     whole (s .args .bytes .now) (columnOf (s .args .c)) (s .pre) (sym (c .before .accepts .ensures) ∙ not-false (c .before .accepts .result) (c .if3 .left))
 
 read-ids-requires : tie.Need-read-ids-requires
@@ -49,7 +49,7 @@ read-values-requires c κs = (taken (c .before .before .before .before .before),
 returns-4 : tie.Need-returns-4
 returns-4 c =
     let e = c .before .before .before .before .before .before .before in
-    let k = e .before .before .before .before .before .before in
+    let k = e .before .before .before .before .before .before .before in
     let s = k .before in
     let a = s .args in
     let u = below-all 256 (a .bytes .now) (λ j. k .shared-slice-known .given j .fits) in

@@ -4,90 +4,63 @@ use Prim.Native.Nat.{_+_}
 use native.Mathlib.Omega.{arith}
 use borrow.Author.Needs.{needs}
 use lib.ListN.{length}
-use Rattle.format.specs.Pairs.{Below}
-use Rattle.format.specs.Ids.{jumpsFrom}
-use Rattle.format.specs.IdsRead.{readRuns}
-use Rattle.format.proofs.Digits.{below-all}
+use Rattle.format.specs.Ids.{notTwo}
+use Rattle.format.specs.Refusals.{done}
+use Rattle.judge.specs.Judge.{judgeEntries}
+use mathlib.Core.List.{[]}
 use Rattle.section_check.specs.Reasons.{endedAt, entriesOf}
-use Rattle.section_check.proofs.Trail.{end-fits, end-most, jumps-long}
-use Rattle.section_check.proofs.Left.{two-count, two-over, two-right, more-count, more-wrong, more-over, more-right}
+use Rattle.section_check.proofs.Trail.{entriesIn, Past, past}
+use Rattle.section_check.proofs.Left.{two, not-two, no-entries, rest-count, rest-wrong, rest-over, rest-right}
 use Rattle.section_check.proofs.judge_rest.Statement.{statement}
 use Rattle.section_check.proofs.judge_rest.Tie as tie
 
-bytes : (c : tie.After-shared-slice-known) → Below 256 (c .before .args .s .now)
-bytes c = below-all 256 (c .before .args .s .now) (λ i. c .shared-slice-known .given i .fits)
+-- what the blocks left
+blocks : (c : tie.After-shared-slice-known) → let a = c .before .args in Past (a .p) (a .s .now) (endedAt (a .start) (a .count) (a .next))
+blocks c = past _ (c .before .pre .0) _ (λ i. c .shared-slice-known .given i .fits) _ (c .before .pre .1)
 
 -- one entry for each block number to the last, and one for the end
-many : (c : tie.After-size)
-    → let a = c .before .before .args in
-    length (jumpsFrom (a .p) 0 0 0 (readRuns (length (a .s .now)) (a .p) (a .s .now))) ≡ c .size .result + 1
-many c =
-    let st = c .before .before in
-    let a = st .args in
-    jumps-long (a .p) (st .pre .0) (a .s .now) (bytes (c .before)) (endedAt (a .start) (a .count) (a .next)) (st .pre .1)
-    ∙ ap (λ n. n + 1) (sym (c .size .ensures))
+many : (c : tie.After-size) → let a = c .before .before .args in length (entriesIn (a .p) (a .s .now)) ≡ c .size .result + 1
+many c = blocks (c .before) .long ∙ ap (λ n. n + 1) (sym (c .size .ensures))
 
-add-base : tie.Need-add-base
-add-base c =
-    let a = c .before .args in
-    omega (arith, end-fits (a .p) (c .before .pre .0) (a .s .now) (bytes c) (endedAt (a .start) (a .count) (a .next)) (c .before .pre .1))
+-- two: none are written; more or fewer: all are
+none : (c : tie.Then1) → let a = c .before .before .before .args in notTwo (entriesIn (a .p) (a .s .now)) ≡ []
+none c = two _ (many (c .before) ∙ c .if1 .taken)
 
-add-n : tie.Need-add-n
-add-n c =
-    let st = c .before .before in
-    let a = st .args in
-    omega (arith, end-most (a .p) (st .pre .0) (a .s .now) (bytes (c .before)) (endedAt (a .start) (a .count) (a .next)) (st .pre .1))
+all : (c : tie.Else1) → let a = c .before .before .before .args in notTwo (entriesIn (a .p) (a .s .now)) ≡ entriesIn (a .p) (a .s .now)
+all c = not-two _ (λ e. c .if1 .left (sym (many (c .before)) ∙ e))
 
-returns : tie.Need-returns
-returns c = two-count _ _ _ _ (many (c .before .before) ∙ c .before .if1 .taken) (c .if2 .taken)
-
-returns-2 : tie.Need-returns-2
-returns-2 c = two-over _ _ _ _ (many (c .before .before .before) ∙ c .before .before .if1 .taken) (c .before .if2 .left) (c .if3 .taken)
-
-returns-3 : tie.Need-returns-3
-returns-3 c = two-right _ _ _ _ (many (c .before .before .before) ∙ c .before .before .if1 .taken) (c .before .if2 .left) (c .if3 .left)
-
-returns-4 : tie.Need-returns-4
-returns-4 c =
-    let n = many (c .before .before) in
-    more-count _ _ _ _ (λ e. c .before .if1 .left (sym n ∙ e)) (λ e. c .if4 .taken (e ∙ n))
-
-judge-entries-requires : tie.Need-judge-entries-requires
-judge-entries-requires c κs = c .before .before .before .before .pre
+named : (c : tie.Else4) → let a = c .before .before .before .before .args in a .j ≡ length (entriesIn (a .p) (a .s .now))
+named c = c .if4 .left ∙ sym (many (c .before .before))
 
 returns-5 : tie.Need-returns-5
 returns-5 c =
     let q = c .before .before .before .before in
-    let n = many (q .before .before) in
-    more-wrong _ _ _ _ (λ e. q .before .if1 .left (sym n ∙ e)) _ (q .if4 .left ∙ sym n)
-    (ap entriesOf (sym (c .before .end .given .1)) ∙ c .before .before .before .judge-entries .ensures)
+    rest-wrong _ _ (all (q .before)) _ _ _ (named q) _ (ap entriesOf (sym (c .before .end .given .1)) ∙ c .before .before .before .judge-entries .ensures)
+
+-- the place after the entries, which were found right
+ended : (c : tie.After-known-told2)
+    → let a = c .before .before .before .before .before .before .before .before .args in
+    done (c .before .end2 .given .0 .0) ≡ judgeEntries (entriesIn (a .p) (a .s .now)) (a .s .now) (a .start + 6)
+ended c = ap entriesOf (sym (c .before .end2 .given .1)) ∙ c .before .before .before .judge-entries .ensures
 
 returns-6 : tie.Need-returns-6
-returns-6 c =
-    let q = c .before .before .before .before .before in
-    let n = many (q .before .before) in
-    more-over _ _ _ _ (λ e. q .before .if1 .left (sym n ∙ e)) _ (q .if4 .left ∙ sym n)
-    (ap entriesOf (sym (c .before .before .end2 .given .1)) ∙ c .before .before .before .before .judge-entries .ensures) (c .if5 .taken)
+returns-6 c = let q = c .before .before .before .before .before in rest-over _ _ (all (q .before)) _ _ _ (named q) _ (ended (c .before)) (c .if5 .taken)
 
 returns-7 : tie.Need-returns-7
-returns-7 c =
-    let q = c .before .before .before .before .before in
-    let n = many (q .before .before) in
-    more-right _ _ _ _ (λ e. q .before .if1 .left (sym n ∙ e)) _ (q .if4 .left ∙ sym n)
-    (ap entriesOf (sym (c .before .before .end2 .given .1)) ∙ c .before .before .before .before .judge-entries .ensures) (c .if5 .left)
+returns-7 c = let q = c .before .before .before .before .before in rest-right _ _ (all (q .before)) _ _ _ (named q) _ (ended (c .before)) (c .if5 .left)
 
 pub judge-rest-spec : {M : Type 1} → statement M
 judge-rest-spec =
     tie.close
     (tie.spec
-    add-base
+    (λ c. omega (arith, blocks c .fits))
     (λ c κs. search needs)
-    add-n
-    returns
-    returns-2
-    returns-3
-    returns-4
-    judge-entries-requires
+    (λ c. omega (arith, blocks (c .before) .most))
+    (λ c. rest-count _ _ (none (c .before)) _ _ _ (c .if2 .taken))
+    (λ c. rest-over _ _ (none (c .before .before)) _ _ _ (c .before .if2 .left) _ (no-entries _ _) (c .if3 .taken))
+    (λ c. rest-right _ _ (none (c .before .before)) _ _ _ (c .before .if2 .left) _ (no-entries _ _) (c .if3 .left))
+    (λ c. rest-count _ _ (all (c .before)) _ _ _ (λ e. c .if4 .taken (e ∙ many (c .before .before))))
+    (λ c κs. c .before .before .before .before .pre)
     (λ c. search needs)
     returns-5
     (λ c. search needs)

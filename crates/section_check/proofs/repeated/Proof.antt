@@ -14,31 +14,16 @@ Inv-loop s from n o at i₀ i = (Kept s from n o at i) × (i ≤ n)
 abbrev μ-loop : tie.MeasureT-loop
 μ-loop s from n o at i₀ i = n - i
 
-loop-holds : tie.Need-loop-holds Inv-loop μ-loop
-loop-holds c = let a = c .before .args in (kept-begin (a .s .now) (a .from) (a .n) (a .o) (a .at), omega arith)
-
 returns : tie.Need-returns Inv-loop μ-loop
 returns c =
-    let a = c .before .before .before .before .before .args in
-    let l = c .before .before .before .loop in (
-      omega arith,
-      kept-stop (a .s .now) (a .from) (a .n) (a .o) (a .at) (l .i) (l .inv .0) (omega arith)
-          (sym (c .before .entry-is .ensures) ∙ not-true _ (c .if1 .taken)),
-    )
+    let l = c .before .before .before .loop in
+    (omega arith, kept-stop _ _ _ _ _ _ (l .inv .0) (omega arith) (sym (c .before .entry-is .ensures) ∙ not-true _ (c .if1 .taken)))
 
 loop-again : tie.Need-loop-again Inv-loop μ-loop
 loop-again c =
-    let a = c .before .before .before .before .before .args in
-    let l = c .before .before .before .loop in (
-      kept-on (a .s .now) (a .from) (a .n) (a .o) (a .at) (l .i) (l .inv .0) (omega arith)
-          (sym (c .before .entry-is .ensures) ∙ not-false _ (c .if1 .left)),
-      omega arith,
-    )
-
-returns-2 : tie.Need-returns-2 Inv-loop μ-loop
-returns-2 c =
-    let a = c .before .before .before .args in
-    let l = c .before .loop in (omega arith, kept-end (a .s .now) (a .from) (a .n) (a .o) (a .at) (l .i) (l .inv .0) (omega arith))
+    let l = c .before .before .before .loop in
+    let n = c .before .before .before .before .before .args .n in
+    (kept-on _ _ n _ _ (l .i) (l .inv .0) (omega arith) (sym (c .before .entry-is .ensures) ∙ not-false _ (c .if1 .left)), omega arith)
 
 pub repeated-spec : {M : Type 1} → statement M
 repeated-spec =
@@ -46,7 +31,7 @@ repeated-spec =
     (tie.spec
     Inv-loop
     μ-loop
-    loop-holds
+    (λ c. let a = c .before .args in (kept-begin (a .s .now) (a .from) (a .n) (a .o) (a .at), omega arith))
     (λ c. search needs)
     (λ c. search needs)
     (λ c κs. search needs)
@@ -54,4 +39,4 @@ repeated-spec =
     (λ c. search needs)
     (λ c. search needs)
     loop-again
-    returns-2)
+    (λ c. (omega arith, kept-end _ _ _ _ _ _ (c .before .loop .inv .0) (omega arith))))

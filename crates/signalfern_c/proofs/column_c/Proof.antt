@@ -3,13 +3,13 @@ use borrow.Author.Needs.{needs}
 use mathlib.Core.Path.{sym, ap}
 use Rattle.signalfern_c.proofs.Shown.{refused-column}
 use Rattle.signalfern_c.specs.Boundary.{columnC}
-use Rattle.column.specs.declared.Opened.{Opened}
+use Rattle.column.specs.declared.Opening.{Opening}
 use Rattle.column.specs.Opened.{openedOf}
 use Rattle.signalfern_c.proofs.column_c.Statement.{statement}
 use Rattle.signalfern_c.proofs.column_c.Tie as tie
 
 returns : tie.Need-returns
-returns c = ap (λ (x : Opened). columnC (openedOf x)) (sym (c .before .opened .given .1))
+returns c = rw (c .number-of .ensures) (ap (λ (x : Opening). columnC (openedOf x)) (sym (c .before .before .before .before .opened .given .1)))
 
 returns-2 : tie.Need-returns-2
 returns-2 c = refused-column _ _ _ (c .before .number .ensures) (c .number-with .ensures) _ (c .before .before .before .opened2 .given .1)
@@ -19,6 +19,7 @@ column-c-spec =
     tie.close
     (tie.spec
     (λ c. search needs)
+    (λ c κs. search needs)
     (λ c. search needs)
     (λ c κs. search needs)
     (λ c κs. search needs)

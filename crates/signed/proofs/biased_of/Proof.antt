@@ -5,11 +5,10 @@ use borrow.Author.Needs.{needs}
 use Rattle.signed.proofs.biased_of.Statement.{statement}
 use Rattle.signed.proofs.biased_of.Tie as tie
 
-returns : tie.Need-returns
-returns c = rw (unzigzag-even (c .before .args .number) (c .if1 .taken))
-
-returns-2 : tie.Need-returns-2
-returns-2 c = rw (unzigzag-odd (c .before .args .number) (c .if1 .left)) (omega arith)
-
 pub biased-of-spec : {M : Type 1} → statement M
-biased-of-spec = tie.close (tie.spec (λ c. search needs) (λ c. search needs) returns returns-2)
+biased-of-spec =
+    tie.close
+    (tie.spec
+    (λ c. search needs) (λ c. search needs)
+    (λ c. rw (unzigzag-even (c .before .args .number) (c .if1 .taken)))
+    (λ c. rw (unzigzag-odd (c .before .args .number) (c .if1 .left)) (omega arith)))

@@ -5,13 +5,10 @@ use borrow.Author.Needs.{needs}
 use Rattle.signed.proofs.number_of.Statement.{statement}
 use Rattle.signed.proofs.number_of.Tie as tie
 
-returns : tie.Need-returns
-returns c = rw (un-low (c .before .args .b) (c .if1 .taken)) (omega arith)
-
-returns-2 : tie.Need-returns-2
-returns-2 c = rw (un-high (c .before .args .b) (c .if1 .left)) (omega arith)
-
 pub number-of-spec : {M : Type 1} → statement M
 number-of-spec =
     tie.close
-    (tie.spec (λ c. search needs) (λ c. search needs) (λ c. search needs) (λ c. search needs) returns returns-2)
+    (tie.spec
+    (λ c. search needs) (λ c. search needs) (λ c. search needs) (λ c. search needs)
+    (λ c. rw (un-low (c .before .args .b) (c .if1 .taken)) (omega arith))
+    (λ c. rw (un-high (c .before .args .b) (c .if1 .left)) (omega arith)))

@@ -18,13 +18,10 @@ use Rattle.section_check.proofs.block.count_words.Tie as tie
 abbrev Inv-loop : tie.InvT-loop
 Inv-loop s t p b n m w right₀ sum₀ first₀ j₀ right sum first j =
     (right && ranksFrom (n - j) p s t m j ≡ ranksFrom (rankBytes p / 2) p s t (t + rankBytes p) 0) × (sum ≡ onesFrom s m first 0)
-    × (first ≡ j * 2 ^ (p - 6)) × (sum ≤ 64 * first) × (n ≡ rankBytes p / 2) × (m ≡ t + rankBytes p) × (w ≡ 2 ^ (p - 6)) × (j ≤ n)
+    × (first ≡ j * 2 ^ (p - 6)) × (sum ≤ 64 * first) × (j ≤ n)
 
 abbrev μ-loop : tie.MeasureT-loop
 μ-loop s t p b n m w right₀ sum₀ first₀ j₀ right sum first j = n - j
-
-ones-from-requires : tie.Need-ones-from-requires Inv-loop μ-loop
-ones-from-requires c κs = (omega (arith, c .before .before .pre .1), omega arith)
 
 returns : tie.Need-returns Inv-loop μ-loop
 returns c =
@@ -32,12 +29,6 @@ returns c =
     let a = st .args in
     let e : a .t ≡ a .t + rankBytes (a .p) = sym (add-zero (a .t)) ∙ ap (λ (x : ℕ). a .t + x) (sym (ranks-none (a .p) (c .before .if1 .taken))) in
     (c .ones-from .ensures .0 ∙ ap (λ (x : ℕ). onesFrom (a .s .now) x 1024 0) e, sym (ranks-free (a .p) (a .s .now) (a .t) _ (c .before .if1 .taken)))
-
-rank-bytes-requires : tie.Need-rank-bytes-requires Inv-loop μ-loop
-rank-bytes-requires c κs = c .before .before .pre .0
-
-stride-requires : tie.Need-stride-requires Inv-loop μ-loop
-stride-requires c κs = let q = c .before .before .before .pre .0 in (omega (arith, q .least (c .before .if1 .left)), omega arith)
 
 loop-holds : tie.Need-loop-holds Inv-loop μ-loop
 loop-holds c =
@@ -47,9 +38,6 @@ loop-holds c =
       sym (ones-none (a .s .now) _ 0),
       sym (zero-mul (2 ^ (a .p - 6))),
       omega arith,
-      ap (λ (x : ℕ). x / 2) e,
-      ap (λ (x : ℕ). a .t + x) e,
-      c .stride .ensures .0,
       omega arith,
     )
 
@@ -67,12 +55,6 @@ ones-from-requires-2 c κs =
     let f = fits (c .before .before) in
     (omega (arith, l .before .before .before .before .before .pre .1), omega arith)
 
-add-sum : tie.Need-add-sum Inv-loop μ-loop
-add-sum c = let f = fits (c .before .before .before) in omega arith
-
-add-first : tie.Need-add-first Inv-loop μ-loop
-add-first c = let f = fits (c .before .before .before) in omega arith
-
 loop-again : tie.Need-loop-again Inv-loop μ-loop
 loop-again c =
     let l = c .before .before .before .before in
@@ -84,11 +66,8 @@ loop-again c =
     (ones-moved (a .s .now) _ _ _ _ (i .1) (i .2)) in (
       e ∙ i .0,
       ap₂ _+_ (i .1) (c .ones-from2 .ensures .0) ∙ sym (ones-grow (a .s .now) _ (l .loop .first) _),
-      ap₂ _+_ (i .2) (i .6) ∙ stride-next (l .loop .j) (2 ^ (a .p - 6)),
+      ap₂ _+_ (i .2) (l .before .stride .ensures .0) ∙ stride-next (l .loop .j) (2 ^ (a .p - 6)),
       omega arith,
-      i .4,
-      i .5,
-      i .6,
       omega arith,
     )
 
@@ -100,7 +79,7 @@ returns-2 c =
     let i = l .loop .inv in
     let all : l .loop .first ≡ 1024 =
     i .2 ∙ strides-all (a .p) (l .loop .j) (st .pre .0) (l .before .before .before .if1 .left) (omega (arith, c .loop-test .left)) in (
-      i .1 ∙ ap₂ (λ (x y : ℕ). onesFrom (a .s .now) x y 0) (i .5) all,
+      i .1 ∙ ap₂ (λ (x y : ℕ). onesFrom (a .s .now) x y 0) (ap (λ (x : ℕ). a .t + x) (l .before .before .rank-bytes .ensures .0)) all,
       sym (ranks-last _ (a .p) (a .s .now) (a .t) _ (l .loop .j) (l .loop .right) (c .loop-test .left)) ∙ i .0,
     )
 
@@ -110,19 +89,19 @@ count-words-spec =
     (tie.spec
     Inv-loop
     μ-loop
-    ones-from-requires
+    (λ c κs. (omega (arith, c .before .before .pre .1), omega arith))
     returns
-    rank-bytes-requires
+    (λ c κs. c .before .before .pre .0)
     (λ c. search needs)
-    stride-requires
+    (λ c κs. let q = c .before .before .before .pre .0 in (omega (arith, q .least (c .before .if1 .left)), omega arith))
     loop-holds
     (λ c. search needs)
     (λ c. search needs)
     (λ c κs. search needs)
     (λ c κs. search needs)
     ones-from-requires-2
-    add-sum
-    add-first
+    (λ c. let f = fits (c .before .before .before) in omega arith)
+    (λ c. let f = fits (c .before .before .before) in omega arith)
     (λ c. search needs)
     (λ c. search needs)
     loop-again

@@ -1,0 +1,17 @@
+-- `column::edition_in` meets its contract. Assumes nothing.
+use native.Mathlib.Omega.{arith}
+use borrow.Author.Tests.{eq-eqb, ne-eqb}
+use Rattle.format.specs.Editions.{numberOf, editions, editionIn}
+use Rattle.column.proofs.edition_in.Statement.{statement}
+use Rattle.column.proofs.edition_in.Tie as tie
+
+returns : tie.Need-returns
+unfolding numberOf editions editionIn
+returns c = rw (eq-eqb (c .before .args .number) 1 (omega arith))
+
+returns-2 : tie.Need-returns-2
+unfolding numberOf editions editionIn
+returns-2 c = rw (ne-eqb (c .before .args .number) 1 (λ e. omega arith))
+
+pub edition-in-spec : {M : Type 1} → statement M
+edition-in-spec = tie.close (tie.spec returns returns-2)

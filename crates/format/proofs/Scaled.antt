@@ -1,0 +1,113 @@
+-- A codec with one smallest value, one divisor and one width is lawful for every sound packing. Assumes nothing.
+use mathlib.Core.Path.{_≡_, refl, sym, ap, _∙_, subst}
+use mathlib.Core.Bool.{true}
+use mathlib.Core.List.{List, [], _∷_}
+use mathlib.Core.Option.{some}
+use Prim.Native.Nat.{ℕ, zero, suc, _/_, _^_, _<_, _≤_}
+use native.Mathlib.Nat.{div-le-self, lt-of-le-of-lt, mul-le-mul}
+use native.Mathlib.Omega.{arith}
+use lib.IntN.{ℤ, pos}
+use lib.ListN.{length, getD, List·getD-map}
+use borrow.Author.Tests.{eq-eqb, le-leb}
+use Rattle.format.specs.HeaderNumbers.{unzigzag}
+use Rattle.format.specs.Bits.{packedBytes}
+use Rattle.format.specs.Values.{fits64, smallest, over, spread, divisor, stored, valueAt}
+use Rattle.format.specs.Pairs.{Each, Fits}
+use Rattle.format.specs.Codec.{Packing, signed64, scaled}
+use Rattle.format.proofs.Values.{each-at, values-back, spread-each, length-stored, div-le-div}
+use Rattle.format.proofs.Fits.{unzigzag-zigzag}
+use Rattle.format.proofs.Bounds.{spread-lt, zig-lt, divisor-is}
+use Rattle.format.proofs.Lawful.{Storable, SmallFields, Lawful}
+use Rattle.format.proofs.Cases.{true-or}
+
+-- what a packing owes: widths for all numbers of 64 bits, n times w bits rounded up to bytes, and each number back
+pub record Sound (k : Packing) : Type 0 where
+  pub enough : (q : ℕ) → q < 2 ^ 64 → q < 2 ^ k .widthFor q
+  pub narrow : (q : ℕ) → q < 2 ^ 64 → k .widthFor q ≤ 64
+  pub allowed : (q : ℕ) → q < 2 ^ 64 → k .widthOk (k .widthFor q) ≡ true
+  pub size : (w : ℕ) (xs : List ℕ) → length (k .pack w xs) ≡ packedBytes (length xs) w
+  pub fetches : (w : ℕ) (xs : List ℕ) (i : ℕ) → i < length xs → getD xs i 0 < 2 ^ w → k .fetch (k .pack w xs) w i ≡ getD xs i 0
+
+-- ---- a signed 64-bit number
+
+pub signed-some : (v : ℤ) → Fits v → signed64 v ≡ some v
+unfolding signed64 Fits
+signed-some v h = rw h
+
+pub signed-fits : (u v : ℤ) → signed64 u ≡ some v → Fits v
+unfolding signed64 Fits
+signed-fits u v e =
+    true-or (fits64 u)
+    (λ f. let same : u ≡ v = cc (rw f at e) in subst Fits same f)
+    (λ f. absurd (let z : _≡_ {A = ℕ} 0 1 = cc (rw f at e) in omega arith))
+
+-- ---- stored numbers
+
+getD-any : {A : Type 0} (l : List A) (i : ℕ) (d e : A) → i < length l → getD l i d ≡ getD l i e
+getD-any [] i d e k = absurd (omega arith)
+getD-any (v ∷ vs) zero d e k = refl
+getD-any (v ∷ vs) (suc i) d e k = getD-any vs i d e (omega arith)
+
+-- no stored number is above (max - min) / g
+stored-le : (vs : List ℤ) (i : ℕ) → zero < divisor vs → i < length vs → getD (stored vs) i 0 ≤ spread vs / divisor vs
+unfolding stored
+stored-le vs i h k =
+    let f : ℤ → ℕ = λ v. over (smallest vs) v / divisor vs in
+    subst (λ (x : ℕ). x ≤ spread vs / divisor vs)
+    (sym (getD-any (stored vs) i 0 (f (pos 0)) (omega (arith, length-stored vs)) ∙ List·getD-map f vs i (pos 0)))
+    (div-le-div (each-at (λ v. over (smallest vs) v ≤ spread vs) vs i (pos 0) (spread-each vs) k) h)
+
+-- ---- the codec
+
+module _ (k : Packing) (sound : Sound k) (vs : List ℤ) (ok : Storable vs) where
+  fit : Each Fits vs
+  fit = ok .fit
+
+  q : ℕ
+  q = spread vs / divisor vs
+
+  w : ℕ
+  w = k .widthFor q
+
+  q-lt : q < 2 ^ 64
+  unfolding q
+  q-lt = lt-of-le-of-lt (div-le-self (spread vs) (divisor vs)) (spread-lt vs fit)
+
+  size-is : length (k .pack w (stored vs)) ≡ packedBytes (length vs) w
+  size-is = sound .size w (stored vs) ∙ ap (λ (n : ℕ). packedBytes n w) (length-stored vs)
+
+  numbers : SmallFields (scaled k .fields vs)
+  unfolding scaled q
+  numbers = (omega (arith, sound .narrow q q-lt), (zig-lt vs fit, (divisor-is vs fit .1, tt)))
+
+  bytes : length (scaled k .section vs) < 2 ^ 64
+  unfolding scaled q w
+  bytes = omega (arith, mul-le-mul (ok .few) (sound .narrow q q-lt), q-lt, size-is)
+
+  keeps : scaled k .fieldsOk (length vs) (scaled k .fields vs) (length (scaled k .section vs)) ≡ true
+  unfolding scaled q w
+  keeps = rw (sound .allowed q q-lt, le-leb 1 (divisor vs) (divisor-is vs fit .0), eq-eqb _ _ size-is)
+
+  comes-back : (i : ℕ) → i < length vs → scaled k .value (length vs) (scaled k .fields vs) (scaled k .section vs) i ≡ some (getD vs i (pos 0))
+  unfolding scaled q w
+  comes-back i h =
+      let j : i < length (stored vs) = omega (arith, length-stored vs) in
+      let at : ℕ → ℤ = valueAt (smallest vs) (divisor vs) in
+      let x : getD (stored vs) i 0 < 2 ^ w = lt-of-le-of-lt (stored-le vs i (divisor-is vs fit .0) h) (sound .enough q q-lt) in
+      rw (unzigzag-zigzag (smallest vs), sound .fetches w (stored vs) i j x)
+      (ap signed64
+      (sym (List·getD-map at (stored vs) i 0)
+      ∙ ap (λ (l : List ℤ). getD l i (at 0)) (values-back vs)
+      ∙ getD-any vs i (at 0) (pos 0) h)
+      ∙ signed-some (getD vs i (pos 0)) (each-at Fits vs i (pos 0) fit h))
+
+pub scaled-lawful : (k : Packing) → Sound k → Lawful (scaled k)
+unfolding scaled
+scaled-lawful k sound =
+    record {
+      small-fields = numbers k sound;
+      small-section = bytes k sound;
+      rules = keeps k sound;
+      back = comes-back k sound;
+      fit = λ n f s i v e. signed-fits (valueAt (unzigzag (f .smallest)) (f .divisor) (k .fetch s (f .width) i)) v e;
+    }

@@ -1,0 +1,21 @@
+-- `header_numbers::quick_number` meets its contract. Assumes nothing.
+use mathlib.Core.Path.{refl}
+use native.Mathlib.Omega.{arith}
+use Rattle.header_numbers.proofs.Fast.{quick-is}
+use Rattle.header_numbers.proofs.Steps.{small-first}
+use borrow.Author.Needs.{needs}
+use Rattle.header_numbers.proofs.quick_number.Statement.{statement}
+use Rattle.header_numbers.proofs.quick_number.Tie as tie
+
+returns : tie.Need-returns
+returns c =
+    let a = c .before .before .before .before .args in
+    quick-is 1 (small-first (a .s .now) (a .at) (c .before .wide .ensures .0) (omega arith) (c .if1 .taken)) (omega arith) refl refl
+
+pub quick-number-spec : {M : Type 1} → statement M
+quick-number-spec =
+    tie.close
+    (tie.spec
+    (λ c. search needs) (λ c κs. search needs) (λ c. search needs) (λ c. search needs)
+    returns
+    (λ c κs. search needs) (λ c. search needs))

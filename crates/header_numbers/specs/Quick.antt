@@ -1,0 +1,13 @@
+-- A header number read at once, as one number. Assumes nothing.
+use mathlib.Core.Path.{_≡_}
+use mathlib.Core.List.{List}
+use Prim.Native.Nat.{ℕ, _+_, _/_, _%_, _≤_}
+use lib.ListN.{drop}
+use Rattle.format.specs.HeaderNumbers.{readNumber}
+use Rattle.header_numbers.specs.Read.{numberOf}
+use Rattle.header_numbers.specs.declared.Number.the-variants.{Is}
+
+-- r is 0, or else 16 times the number at a place and the bytes that it takes
+pub record Quick (s : List ℕ) (at r : ℕ) : Type 0 where
+  pub read : (r ≡ 0 → ⊥) → numberOf at (readNumber (drop at s)) ≡ Is (r / 16) (at + r % 16)
+  pub few : r % 16 ≤ 5

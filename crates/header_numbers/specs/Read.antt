@@ -1,0 +1,16 @@
+-- What reading a header number at a place finds, with places counted from the bytes' front. Assumes nothing.
+use Prim.Native.Nat.{ℕ, _+_, _*_}
+use Rattle.format.specs.HeaderNumbers.{Got, got, short, bad}
+use Rattle.header_numbers.specs.declared.Number.{Number}
+use Rattle.header_numbers.specs.declared.Number.the-variants.{Is, Short, Bad}
+
+abbrev pub numberOf : ℕ → Got → Number
+numberOf at (got v k) = Is v (at + k)
+numberOf at short = Short
+numberOf at (bad k) = Bad (at + k)
+
+-- the same in mid-number: what is read counts `scale` times and stands above `sum`, which the bytes before gave
+abbrev pub numberOn : ℕ → ℕ → ℕ → Got → Number
+numberOn scale sum at (got v k) = Is (sum + scale * v) (at + k)
+numberOn scale sum at short = Short
+numberOn scale sum at (bad k) = Bad (at + k)

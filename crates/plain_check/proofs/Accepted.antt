@@ -1,0 +1,280 @@
+-- The tests of edition 1 accept a value section that keeps the header rules exactly if it is the section of its values, and the fields
+-- are theirs. Assumes nothing.
+use mathlib.Core.Path.{_≡_, refl, sym, ap, ap₂, _∙_, subst}
+use mathlib.Core.Bool.{Bool, true, _&&_}
+use mathlib.Core.List.{List, [], _∷_, map}
+use Prim.Native.Nat.{ℕ, _-_, _*_, _/_, _%_, _^_, _<_, _≤_, _∣_, min, max}
+use native.Mathlib.Nat.{mul-one, mul-zero, eq-of-mul-eq-mul-left, mod-eq-zero-of-dvd, dvd-of-mod-eq-zero}
+use native.Mathlib.Omega.{arith}
+use lib.Dec.{eqb, leb}
+use lib.Pow.{pow-mono, pow-pos}
+use lib.IntN.{ℤ, natAbs}
+use lib.ListN.{length, getD, length-map, List·getD-eq-default}
+use borrow.Author.Tests.{eqb-true, eq-eqb, ne-eqb, leb-true, le-leb, lt-leb}
+use Rattle.format.specs.HeaderNumbers.{zigzag, unzigzag}
+use Rattle.format.specs.Bits.{bitAt, tabulate, bitBytes, packed, unpacked}
+use Rattle.format.specs.Values.{smallest, greatest, gcdOf, divisor, bitLength, bitsIn, width, stored, spread}
+use Rattle.format.specs.Pairs.{Below, Each, Fits}
+use Rattle.format.specs.Codec.{Fields}
+use Rattle.format.specs.Editions.{plain, codec}
+use Rattle.format.proofs.Cases.{below-or, equal-or}
+use Rattle.format.proofs.Bits.{below-at, packed-fetched, spare-packed, bitAt-past, unpacked-below, length-unpacked}
+use Rattle.format.proofs.Gcd.{gcdFrom}
+use Rattle.format.proofs.Fits.{zigzag-unzigzag, unzigzag-zigzag, unzigzag-fits, greatest-fits}
+use Rattle.format.proofs.Halves.{ValuesOf, Tested, values-decoded}
+use Rattle.format.proofs.Editions.{plain-fields, plain-section, lawful}
+use Rattle.plain_values.specs.Held.{valueFrom, valuesFrom}
+use Rattle.plain_values.proofs.Facts.{Rules, rules-kept}
+use Rattle.plain_values.proofs.Held.{all-held}
+use Rattle.plain_check.specs.ValuesOk.{spareOk, rangeOk, numbersOk, equalOk, spreadOk, valuesOk}
+use Rattle.plain_check.proofs.Stored.{leastFrom, mostFrom, most-first, value-zero, fits-below, each-fits, common-value}
+use Rattle.plain_check.proofs.Spare.{spare-sound, spare-complete}
+use Rattle.plain_check.proofs.Ranged.{bit-length-is, top-set, most-below, least-le, greatest-is, zero-there, zero-needed}
+use Rattle.plain_check.proofs.Ranged.{divisor-equal, divisor-spread, divides-least, width-is, stored-is}
+use Rattle.plain_check.proofs.Tested.{numbers-are}
+use Rattle.format.proofs.Tests.{both-true, true-both, or-left, or-right}
+
+no-bytes : (s : List ℕ) → length s ≡ 0 → [] ≡ s
+no-bytes [] e = refl
+no-bytes (x ∷ s) e = absurd (omega arith)
+
+-- these values have these fields and these bytes, in document 01's words
+pub record PlainOf (n : ℕ) (h : Fields) (s : List ℕ) (vs : List ℤ) : Type 0 where
+  pub count : length vs ≡ n
+  pub fit : Each Fits vs
+  pub bytes : packed (width vs) (stored vs) ≡ s
+  pub width-is : width vs ≡ h .width
+  pub smallest-is : zigzag (smallest vs) ≡ h .smallest
+  pub divisor-is : divisor vs ≡ h .divisor
+
+module _ (n : ℕ) (h : Fields) (s : List ℕ) (facts : Rules n h (length s)) (small : h .smallest < 2 ^ 64) (u : Below 256 s) where
+  abbrev w : ℕ
+  w = h .width
+
+  abbrev m : ℤ
+  m = unzigzag (h .smallest)
+
+  abbrev vs : List ℕ → List ℤ
+  vs xs = map (valueFrom h) xs
+
+  length-is : length s ≡ bitBytes (n * w)
+  length-is = facts .bytes
+
+  byte : (k : ℕ) → getD s k 0 < 256
+  byte k = below-or k (length s) (λ l. below-at 256 s k u l) (λ l. let z : getD s k 0 ≡ 0 = List·getD-eq-default s 0 l in omega arith)
+
+  packed-is : ((j : ℕ) → n * w ≤ j → bitAt s j ≡ 0) → packed w (unpacked w n s) ≡ s
+  unfolding unpacked
+  packed-is spare = packed-fetched w n s length-is byte spare
+
+  m-fits : Fits m
+  m-fits = unzigzag-fits (h .smallest) small
+
+  -- ---- at least one value
+
+  module _ (x : ℕ) (xs : List ℕ) (e : unpacked w n s ≡ x ∷ xs) where
+    below : Below (2 ^ w) (x ∷ xs)
+    below = subst (Below (2 ^ w)) e (unpacked-below w n s)
+
+    lt-most : mostFrom x xs < 2 ^ w
+    lt-most = most-below (2 ^ w) x xs (below .0) (below .1)
+
+    made : leastFrom x xs ≡ 0 → divisor (vs (x ∷ xs)) ≡ h .divisor → bitLength (mostFrom x xs) ≡ w → Fits (valueFrom h (mostFrom x xs))
+        → ((j : ℕ) → n * w ≤ j → bitAt s j ≡ 0) → PlainOf n h s (vs (x ∷ xs))
+    made lo d b f spare =
+        let p : 0 < h .divisor = facts .positive in
+        let a : smallest (vs (x ∷ xs)) ≡ m = zero-there m (h .divisor) p x xs lo in
+        let k : width (vs (x ∷ xs)) ≡ w = width-is m (h .divisor) p x xs lo d ∙ b in
+        record {
+          count = length-map (x ∷ xs) (valueFrom h) ∙ ap length (sym e) ∙ length-unpacked w n s;
+          fit = (fits-below m (h .divisor) p x (mostFrom x xs) m-fits f (most-first x xs), each-fits m (h .divisor) p x xs m-fits f);
+          bytes = ap₂ packed k (stored-is m (h .divisor) p x xs a d ∙ sym e) ∙ packed-is spare;
+          width-is = k;
+          smallest-is = ap zigzag a ∙ zigzag-unzigzag (h .smallest);
+          divisor-is = d;
+        }
+
+    -- width 0: every number is 0
+    equal-made : w ≡ 0 → h .divisor ≡ 1 → PlainOf n h s (vs (x ∷ xs))
+    unfolding bitLength bitsIn
+    equal-made z g =
+        let p : 0 < h .divisor = facts .positive in
+        let q : 2 ^ w ≡ 1 = ap (λ (k : ℕ). 2 ^ k) z in
+        let hi : mostFrom x xs ≡ 0 = omega (arith, lt-most) in
+        let lo : leastFrom x xs ≡ 0 = omega (arith, below .0, least-le x xs) in
+        let none : length s ≡ 0 = length-is ∙ ap (λ (k : ℕ). bitBytes (n * k)) z ∙ ap bitBytes (mul-zero n) in
+        made lo (divisor-equal m (h .divisor) p x xs lo hi ∙ sym g) (ap bitLength hi ∙ sym z) (rw (hi, value-zero m (h .divisor) p) m-fits)
+        (λ j l. bitAt-past s j (omega arith))
+
+    equal-step : w ≡ 0 → PlainOf n h s (vs (x ∷ xs)) → h .divisor ≡ 1
+    equal-step z v =
+        let q : 2 ^ w ≡ 1 = ap (λ (k : ℕ). 2 ^ k) z in
+        let hi : mostFrom x xs ≡ 0 = omega (arith, lt-most) in
+        let lo : leastFrom x xs ≡ 0 = omega (arith, below .0, least-le x xs) in
+        sym (v .divisor-is) ∙ divisor-equal m (h .divisor) (facts .positive) x xs lo hi
+
+    -- any other width
+    spread-made : 0 < w → h .divisor ∣ natAbs m → ((j : ℕ) → n * w ≤ j → bitAt s j ≡ 0)
+        → rangeOk h (leastFrom x xs) (mostFrom x xs) (gcdFrom (natAbs m / h .divisor) (x ∷ xs)) ≡ true → PlainOf n h s (vs (x ∷ xs))
+    unfolding rangeOk Fits
+    spread-made z g spare r =
+        let p : 0 < h .divisor = facts .positive in
+        let f = both-true _ _ r in
+        let d = both-true _ _ (f .0) in
+        let t = both-true _ _ (d .0) in
+        let lo : leastFrom x xs ≡ 0 = eqb-true _ _ (t .0) in
+        let top : 2 ^ (w - 1) ≤ mostFrom x xs = leb-true _ _ (t .1) in
+        let one : gcdFrom (natAbs m / h .divisor) (x ∷ xs) ≡ 1 = eqb-true _ _ (d .1) in
+        let hi : 0 < mostFrom x xs = omega (arith, pow-pos (w - 1)) in
+        made lo
+        (divisor-spread m (h .divisor) p x xs lo hi ∙ common-value m (h .divisor) p (x ∷ xs) g (divides-least m (h .divisor) p x xs lo)
+        ∙ ap (λ (k : ℕ). h .divisor * k) one ∙ mul-one (h .divisor))
+        (bit-length-is (mostFrom x xs) w lt-most top) (f .1) spare
+
+    spread-range : 0 < w → PlainOf n h s (vs (x ∷ xs))
+        → (h .divisor ∣ natAbs m) × (rangeOk h (leastFrom x xs) (mostFrom x xs) (gcdFrom (natAbs m / h .divisor) (x ∷ xs)) ≡ true)
+        × (packed w (x ∷ xs) ≡ s)
+    unfolding rangeOk Fits
+    spread-range z v =
+        let p : 0 < h .divisor = facts .positive in
+        let a : smallest (vs (x ∷ xs)) ≡ m = sym (unzigzag-zigzag (smallest (vs (x ∷ xs)))) ∙ ap unzigzag (v .smallest-is) in
+        let lo : leastFrom x xs ≡ 0 = zero-needed m (h .divisor) p x xs a in
+        let b : bitLength (mostFrom x xs) ≡ w = sym (width-is m (h .divisor) p x xs lo (v .divisor-is)) ∙ v .width-is in
+        let top : 2 ^ (w - 1) ≤ mostFrom x xs = top-set (mostFrom x xs) w z b in
+        let hi : 0 < mostFrom x xs = omega (arith, pow-pos (w - 1)) in
+        let d : gcdOf 0 (vs (x ∷ xs)) ≡ h .divisor = sym (divisor-spread m (h .divisor) p x xs lo hi) ∙ v .divisor-is in
+        let l : gcdOf 0 (vs (x ∷ xs)) ∣ natAbs m = divides-least m (h .divisor) p x xs lo in
+        let g : h .divisor ∣ natAbs m = subst (λ (k : ℕ). k ∣ natAbs m) d l in
+        let one : gcdFrom (natAbs m / h .divisor) (x ∷ xs) ≡ 1 =
+        eq-of-mul-eq-mul-left (h .divisor) p _ 1 (sym (common-value m (h .divisor) p (x ∷ xs) g l) ∙ d ∙ sym (mul-one (h .divisor))) in
+        let f : Fits (valueFrom h (mostFrom x xs)) =
+        subst Fits (greatest-is m (h .divisor) p x xs) (greatest-fits (vs (x ∷ xs)) (v .fit)) in (
+          g,
+          true-both _ _ (true-both _ _ (true-both _ _ (eq-eqb _ _ lo) (le-leb _ _ top)) (eq-eqb _ _ one)) f,
+          sym (ap₂ packed (v .width-is) (stored-is m (h .divisor) p x xs a (v .divisor-is))) ∙ v .bytes,
+        )
+
+    numbers-from : (d : ℕ) → numbersOk h (2 ^ w - 1) 0 d (x ∷ xs) ≡ rangeOk h (leastFrom x xs) (mostFrom x xs) (gcdFrom d (x ∷ xs))
+    unfolding leastFrom mostFrom
+    numbers-from d =
+        let a : min (2 ^ w - 1) x ≡ x = omega (arith, below .0) in
+        let b : max 0 x ≡ x = omega arith in
+        numbers-are h (2 ^ w - 1) 0 d (x ∷ xs)
+        ∙ ap₂ (λ (y z : ℕ). rangeOk h (leastFrom y xs) (mostFrom z xs) (gcdFrom d (x ∷ xs))) a b
+
+  -- ---- width 0
+
+  none-made : n ≡ 0 → w ≡ 0 → h .divisor ≡ 1 → h .smallest ≡ 0 → PlainOf n h s []
+  unfolding stored width smallest greatest divisor spread bitLength bitsIn packed tabulate
+  none-made a b c d =
+      record {
+        count = sym a;
+        fit = tt;
+        bytes = no-bytes s (length-is ∙ ap (λ (k : ℕ). bitBytes (n * k)) b ∙ ap bitBytes (mul-zero n));
+        width-is = sym b;
+        smallest-is = sym d;
+        divisor-is = sym c;
+      }
+
+  equal-sound : (l : List ℕ) → unpacked w n s ≡ l → w ≡ 0 → equalOk n h ≡ true → PlainOf n h s (vs l)
+  unfolding equalOk
+  equal-sound [] e z t =
+      let g = both-true _ _ t in
+      let a : n ≡ 0 = sym (length-unpacked w n s) ∙ ap length e in
+      none-made a z (eqb-true _ _ (g .0)) (eqb-true _ _ (rw (lt-leb 1 n (omega arith)) at (g .1)))
+  equal-sound (x ∷ xs) e z t = equal-made x xs e z (eqb-true _ _ (both-true _ _ t .0))
+
+  equal-complete : (l : List ℕ) → unpacked w n s ≡ l → w ≡ 0 → PlainOf n h s (vs l) → equalOk n h ≡ true
+  unfolding equalOk smallest greatest divisor spread
+  equal-complete [] e z v = true-both _ _ (eq-eqb _ _ (sym (v .divisor-is))) (or-right (leb 1 n) (eqb (h .smallest) 0) (eq-eqb (h .smallest) 0 (sym (v .smallest-is))))
+  equal-complete (x ∷ xs) e z v =
+      let a : n ≡ length (x ∷ xs) = sym (length-unpacked w n s) ∙ ap length e in
+      true-both _ _ (eq-eqb _ _ (equal-step x xs e z v)) (or-left (leb 1 n) (eqb (h .smallest) 0) (le-leb 1 n (omega arith)))
+
+  -- ---- any other width
+
+  abbrev numbers : List ℕ → Bool
+  numbers l = numbersOk h (2 ^ w - 1) 0 (natAbs m / h .divisor) l
+
+  spread-parts : spreadOk n h s ≡ true → (natAbs m % h .divisor ≡ 0) × (spareOk s (8 * length s - n * w) ≡ true) × (numbers (unpacked w n s) ≡ true)
+  unfolding spreadOk
+  spread-parts t =
+      let r = both-true (eqb (natAbs m % h .divisor) 0 && spareOk s (8 * length s - n * w)) (numbers (unpacked w n s)) t in
+      let g = both-true (eqb (natAbs m % h .divisor) 0) (spareOk s (8 * length s - n * w)) (r .0) in
+      (eqb-true _ _ (g .0), g .1, r .1)
+
+  none-stored : 0 < w → numbers [] ≡ true → ⊥
+  unfolding numbersOk rangeOk
+  none-stored z r =
+      let q : 2 ^ w - 1 ≡ 0 = eqb-true _ _ (both-true _ _ (both-true _ _ (both-true _ _ r .0) .0) .0) in
+      omega (arith, pow-mono {i = 1} {j = w} z)
+
+  spread-sound : (l : List ℕ) → unpacked w n s ≡ l → 0 < w → spreadOk n h s ≡ true → PlainOf n h s (vs l)
+  spread-sound [] e z t = absurd (none-stored z (subst (λ (k : List ℕ). numbers k ≡ true) e (spread-parts t .2)))
+  spread-sound (x ∷ xs) e z t =
+      let r = spread-parts t in
+      spread-made x xs e z (dvd-of-mod-eq-zero (h .divisor) (r .0)) (spare-sound s (n * w) length-is (r .1))
+      (sym (numbers-from x xs e (natAbs m / h .divisor)) ∙ subst (λ (k : List ℕ). numbers k ≡ true) e (r .2))
+
+  spread-complete : (l : List ℕ) → unpacked w n s ≡ l → 0 < w → PlainOf n h s (vs l) → spreadOk n h s ≡ true
+  unfolding spreadOk smallest greatest divisor spread width bitLength bitsIn
+  spread-complete [] e z v = absurd (omega (arith, v .width-is))
+  spread-complete (x ∷ xs) e z v =
+      let r = spread-range x xs e z v in
+      let k : length (x ∷ xs) ≡ n = ap length (sym e) ∙ length-unpacked w n s in
+      true-both _ _
+      (true-both _ _ (eq-eqb _ _ (mod-eq-zero-of-dvd (h .divisor) (r .0)))
+      (spare-complete s (n * w) length-is
+      (λ j l. subst (λ (b : List ℕ). bitAt b j ≡ 0) (r .2) (spare-packed w (x ∷ xs) j (subst (λ (i : ℕ). i * w ≤ j) (sym k) l)))))
+      (rw e (numbers-from x xs e (natAbs m / h .divisor) ∙ r .1))
+
+  -- ---- the tests and the section
+
+  values-sound : valuesOk n h s ≡ true → PlainOf n h s (vs (unpacked w n s))
+  unfolding valuesOk
+  values-sound t =
+      equal-or w 0
+      (λ z. equal-sound (unpacked w n s) refl z (rw (eq-eqb w 0 z) at t))
+      (λ z. spread-sound (unpacked w n s) refl (omega arith) (rw (ne-eqb w 0 z) at t))
+
+  values-complete : PlainOf n h s (vs (unpacked w n s)) → valuesOk n h s ≡ true
+  unfolding valuesOk
+  values-complete v =
+      equal-or w 0
+      (λ z. rw (eq-eqb w 0 z) (equal-complete (unpacked w n s) refl z v))
+      (λ z. rw (ne-eqb w 0 z) (spread-complete (unpacked w n s) refl (omega arith) v))
+
+-- ---- as the codec says it
+
+plain-of : {n : ℕ} {h : Fields} {s : List ℕ} (v : ValuesOf (codec plain) n h s) → PlainOf n h s (v .values)
+plain-of {n} {h} {s} v =
+    let p = sym (plain-fields (v .values)) ∙ v .fields in
+    record {
+      count = v .count;
+      fit = v .fit;
+      bytes = sym (plain-section (v .values)) ∙ v .bytes;
+      width-is = ap (λ (k : Fields). k .width) p;
+      smallest-is = ap (λ (k : Fields). k .smallest) p;
+      divisor-is = ap (λ (k : Fields). k .divisor) p;
+    }
+
+values-of : {n : ℕ} {h : Fields} {s : List ℕ} {vs : List ℤ} → PlainOf n h s vs → ValuesOf (codec plain) n h s
+values-of {n} {h} {s} {vs} p =
+    record {
+      values = vs;
+      fit = p .fit;
+      fields = plain-fields vs ∙ (λ i. record { width = p .width-is i; smallest = p .smallest-is i; divisor = p .divisor-is i });
+      bytes = plain-section vs ∙ p .bytes;
+      count = p .count;
+    }
+
+-- the tests take just what some n values are written as
+pub plain-tested : Tested (codec plain) valuesOk
+unfolding valuesFrom
+plain-tested =
+    record {
+      sound = λ n h s k t. values-of (values-sound n h s (rules-kept _ _ _ (k .rules)) (k .small .1 .0) (k .bytes) t);
+      complete = λ n h s k v.
+          let d = all-held n h s (v .values) (values-decoded (codec plain) (lawful plain) n h s (k .few) v) in
+          values-complete n h s (rules-kept _ _ _ (k .rules)) (k .small .1 .0) (k .bytes) (subst (PlainOf n h s) (sym (d .same)) (plain-of v));
+    }

@@ -1,0 +1,99 @@
+-- What a list of stored numbers says of the values m + g x: smallest, spread, divisor, width. Assumes nothing.
+use mathlib.Core.Path.{_≡_, refl, sym, ap, ap₂, _∙_, subst}
+use mathlib.Core.List.{List, [], _∷_, map}
+use Prim.Native.Nat.{ℕ, _-_, _*_, _/_, _^_, _<_, _≤_, _∣_, min, max}
+use native.Mathlib.Nat.{mul-zero, mul-div-cancel-left, eq-of-mul-eq-mul-left}
+use native.Mathlib.Omega.{arith}
+use lib.Pow.{pow-mono}
+use lib.IntN.{ℤ, natAbs}
+use borrow.Author.Tests.{eq-eqb, ne-eqb}
+use Rattle.format.specs.Values.{smallest, greatest, over, spread, gcdOf, divisor, bitLength, width, stored, valueAt}
+use Rattle.format.specs.Pairs.{Below}
+use Rattle.format.proofs.Cases.{below-or}
+use Rattle.format.proofs.Gcd.{gcdOf-each}
+use Rattle.format.proofs.Values.{smallest-has, bit-length, bit-length-le}
+use Rattle.plain_check.proofs.Stored.{leastFrom, mostFrom, over-value, value-zero, least-value, most-value}
+
+-- ---- the least width
+
+pub bit-length-is : (q w : ℕ) → q < 2 ^ w → 2 ^ (w - 1) ≤ q → bitLength q ≡ w
+bit-length-is q w h k =
+    let a : bitLength q ≤ w = bit-length-le q w h in
+    below-or (bitLength q) w
+    (λ l. let b : 2 ^ bitLength q ≤ 2 ^ (w - 1) = pow-mono (omega arith) in absurd (omega (arith, bit-length q)))
+    (λ l. omega arith)
+
+pub top-set : (q w : ℕ) → 0 < w → bitLength q ≡ w → 2 ^ (w - 1) ≤ q
+top-set q w p e = below-or q (2 ^ (w - 1)) (λ l. absurd (omega (arith, bit-length-le q (w - 1) l))) (λ l. l)
+
+pub most-below : (b a : ℕ) (xs : List ℕ) → a < b → Below b xs → mostFrom a xs < b
+unfolding mostFrom
+most-below b a [] h t = h
+most-below b a (x ∷ xs) h t = most-below b (max a x) xs (omega (arith, t .0)) (t .1)
+
+pub least-le : (a : ℕ) (xs : List ℕ) → leastFrom a xs ≤ a
+unfolding leastFrom
+least-le a [] = omega arith
+least-le a (x ∷ xs) = omega (arith, least-le (min a x) xs)
+
+-- ---- at least one value
+
+module _ (m : ℤ) (g : ℕ) (p : 0 < g) (x : ℕ) (xs : List ℕ) where
+  abbrev vs : List ℤ
+  vs = map (valueAt m g) (x ∷ xs)
+
+  abbrev lo : ℕ
+  lo = leastFrom x xs
+
+  abbrev hi : ℕ
+  hi = mostFrom x xs
+
+  smallest-is : smallest vs ≡ valueAt m g lo
+  unfolding smallest
+  smallest-is = least-value m g p x xs
+
+  pub greatest-is : greatest vs ≡ valueAt m g hi
+  unfolding greatest
+  greatest-is = most-value m g p x xs
+
+  -- the smallest value is there exactly if 0 is stored
+  pub zero-there : lo ≡ 0 → smallest vs ≡ m
+  zero-there e = smallest-is ∙ ap (valueAt m g) e ∙ value-zero m g p
+
+  pub zero-needed : smallest vs ≡ m → lo ≡ 0
+  zero-needed e =
+      let a : over m (valueAt m g lo) ≡ over m (valueAt m g 0) = ap (over m) (sym smallest-is ∙ e ∙ sym (value-zero m g p)) in
+      eq-of-mul-eq-mul-left g p lo 0 (sym (over-value m g p lo) ∙ a ∙ over-value m g p 0)
+
+  pub spread-is : lo ≡ 0 → spread vs ≡ g * hi
+  unfolding spread
+  spread-is e = ap₂ over (zero-there e) greatest-is ∙ over-value m g p hi
+
+  pub divisor-equal : lo ≡ 0 → hi ≡ 0 → divisor vs ≡ 1
+  unfolding divisor
+  divisor-equal e f =
+      let a : spread vs ≡ 0 = spread-is e ∙ ap (λ (n : ℕ). g * n) f ∙ mul-zero g in
+      rw (eq-eqb (spread vs) 0 a)
+
+  pub divisor-spread : lo ≡ 0 → 0 < hi → divisor vs ≡ gcdOf 0 vs
+  unfolding divisor
+  divisor-spread e f =
+      rw (ne-eqb (spread vs) 0 (λ z. absurd (omega (arith, eq-of-mul-eq-mul-left g p hi 0 (sym (spread-is e) ∙ z ∙ sym (mul-zero g))))))
+
+  -- the divisor divides the smallest value
+  pub divides-least : lo ≡ 0 → gcdOf 0 vs ∣ natAbs m
+  divides-least e =
+      subst (λ (z : ℤ). gcdOf 0 vs ∣ natAbs z) (zero-there e)
+      (smallest-has (λ u. gcdOf 0 vs ∣ natAbs u) (valueAt m g x) (map (valueAt m g) xs) (gcdOf-each 0 vs))
+
+  pub width-is : lo ≡ 0 → divisor vs ≡ g → width vs ≡ bitLength hi
+  unfolding width
+  width-is e d = ap bitLength (ap₂ _/_ (spread-is e) d ∙ mul-div-cancel-left hi p)
+
+  pub stored-is : smallest vs ≡ m → divisor vs ≡ g → stored vs ≡ x ∷ xs
+  unfolding stored
+  stored-is e d = rw (e, d) (go (x ∷ xs))
+    where
+      go : (l : List ℕ) → map (λ v. over m v / g) (map (valueAt m g) l) ≡ l
+      go [] = refl
+      go (y ∷ l) = ap₂ {C = List ℕ} (λ (a : ℕ) (r : List ℕ). a ∷ r) (ap (λ (n : ℕ). n / g) (over-value m g p y) ∙ mul-div-cancel-left y p) (go l)

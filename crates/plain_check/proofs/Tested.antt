@@ -1,0 +1,16 @@
+-- What the tests say, each by itself, and the numbers' fold in three. Assumes nothing.
+use mathlib.Core.Path.{_≡_, refl}
+use mathlib.Core.List.{List, [], _∷_}
+use Prim.Native.Nat.{ℕ, min, max}
+use Rattle.format.specs.Values.{gcd}
+use Rattle.format.specs.Codec.{Fields}
+use Rattle.format.proofs.Gcd.{gcdFrom}
+use Rattle.plain_check.specs.ValuesOk.{rangeOk, numbersOk}
+use Rattle.plain_check.proofs.Stored.{leastFrom, mostFrom}
+
+-- ---- the numbers in a section
+
+pub numbers-are : (h : Fields) (lo hi d : ℕ) (xs : List ℕ) → numbersOk h lo hi d xs ≡ rangeOk h (leastFrom lo xs) (mostFrom hi xs) (gcdFrom d xs)
+unfolding numbersOk leastFrom mostFrom gcdFrom
+numbers-are h lo hi d [] = refl
+numbers-are h lo hi d (x ∷ xs) = numbers-are h (min lo x) (max hi x) (gcd d x) xs

@@ -1,0 +1,29 @@
+-- `plain_check::spare_ok` meets its contract. Assumes nothing.
+use mathlib.Core.Path.{sym}
+use Prim.Native.Nat.{_-_}
+use native.Mathlib.Omega.{arith}
+use lib.ListN.{length}
+use lib.Pow.{pow-pos}
+use Rattle.plain_check.specs.ValuesOk.{spareOk}
+use Rattle.plain_check.proofs.Spare.{spare-none}
+use borrow.Author.Needs.{needs}
+use Rattle.plain_check.proofs.spare_ok.Statement.{statement}
+use Rattle.plain_check.proofs.spare_ok.Tie as tie
+
+returns : tie.Need-returns
+returns c = sym (spare-none (c .before .before .args .s .now) (c .before .before .args .spare) (c .if1 .taken))
+
+cast-last : tie.Need-cast-last
+cast-last c = omega (arith, c .shared-slice-known2 .given (length (c .before .before .before .args .s .now) - 1))
+
+rem-result : tie.Need-rem-result
+rem-result c = rw (c .pow2 .ensures) (pow-pos (c .before .before .before .before .args .spare))
+
+returns-2 : tie.Need-returns-2
+unfolding spareOk
+returns-2 c = rw (c .pow2 .ensures)
+
+pub spare-ok-spec : {M : Type 1} → statement M
+spare-ok-spec =
+    tie.close
+    (tie.spec returns (λ c. search needs) (λ c. search needs) cast-last (λ c κs. search needs) rem-result returns-2)

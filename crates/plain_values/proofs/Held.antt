@@ -1,0 +1,50 @@
+-- The values that a section of edition 1 holds, if each is there: those of its stored numbers, and all fit. Assumes nothing.
+use mathlib.Core.Path.{_≡_, refl, sym, ap₂, _∙_, subst}
+use mathlib.Core.Bool.{Bool, true, false, cond}
+use mathlib.Core.List.{List, [], _∷_}
+use mathlib.Core.Option.{Option, none, some, map-eq-some-iff, bind-eq-some-iff}
+use Prim.Native.Nat.{ℕ, zero, suc}
+use native.Mathlib.Omega.{arith}
+use lib.IntN.{ℤ}
+use Rattle.format.specs.Bits.{tabulate, fetched, unpacked}
+use Rattle.format.specs.Values.{fits64}
+use Rattle.format.specs.Pairs.{Each, Fits}
+use Rattle.format.specs.Codec.{Fields, signed64}
+use Rattle.format.specs.Editions.{plain, codec}
+use Rattle.format.specs.Check.{allValues}
+use Rattle.format.proofs.Scaled.{signed-fits}
+use Rattle.format.proofs.Editions.{plain-value}
+use Rattle.plain_values.specs.Held.{valueFrom, valuesFrom}
+
+signed-is : (u v : ℤ) → signed64 u ≡ some v → u ≡ v
+unfolding signed64
+signed-is u v e = go (fits64 u) e
+  where
+    go : (t : Bool) → cond t (some u) none ≡ some v → u ≡ v
+    go true e = cc
+    go false e = absurd (let z : _≡_ {A = ℕ} 0 1 = cc in omega arith)
+
+pub record Held (f : Fields) (xs : List ℕ) (vs : List ℤ) : Type 0 where
+  pub same : valuesFrom f xs ≡ vs
+  pub fit : Each Fits vs
+
+tabled : (f : Fields) (n : ℕ) (g : ℕ → ℕ) (k : ℕ → Option ℤ) (vs : List ℤ) → ((i : ℕ) → k i ≡ signed64 (valueFrom f (g i)))
+    → allValues n k ≡ some vs → Held f (tabulate n g) vs
+unfolding allValues bind-eq-some-iff tabulate valuesFrom
+tabled f zero g k vs is e =
+    let same : [] ≡ vs = cc in
+    subst (Held f []) same (record { same = refl; fit = tt })
+tabled f (suc n) g k vs is e =
+    let s = bind-eq-some-iff (k 0) _ .0 e in
+    let t = map-eq-some-iff _ (allValues n (λ i. k (suc i))) .0 (s .2) in
+    let one : signed64 (valueFrom f (g 0)) ≡ some (s .0) = sym (is 0) ∙ s .1 in
+    let more : Held f (tabulate n (λ i. g (suc i))) (t .0) = tabled f n (λ i. g (suc i)) (λ i. k (suc i)) (t .0) (λ i. is (suc i)) (t .1) in
+    subst (Held f (tabulate (suc n) g)) (t .2)
+    (record {
+      same = ap₂ {C = List ℤ} (λ (v : ℤ) (l : List ℤ). v ∷ l) (signed-is (valueFrom f (g 0)) (s .0) one) (more .same);
+      fit = (signed-fits (valueFrom f (g 0)) (s .0) one, more .fit);
+    })
+
+pub all-held : (n : ℕ) (f : Fields) (s : List ℕ) (vs : List ℤ) → allValues n (codec plain .value n f s) ≡ some vs → Held f (unpacked (f .width) n s) vs
+unfolding unpacked
+all-held n f s vs e = tabled f n (fetched s (f .width)) (codec plain .value n f s) vs (plain-value n f s) e

@@ -1,0 +1,28 @@
+-- `plain_values::length` meets its contract. Assumes nothing.
+use mathlib.Core.Path.{sym, ap₂, _∙_}
+use native.Mathlib.Omega.{arith}
+use Prim.Native.Nat.{ℕ}
+use Rattle.format.specs.Bits.{packedBytes}
+use Rattle.format.specs.Replies.{fieldsOf}
+use Rattle.plain_values.proofs.Facts.{FieldsOf, fields-are}
+use Rattle.plain_values.proofs.Store.{length-section}
+use borrow.Author.Needs.{needs}
+use Rattle.plain_values.proofs.length.Statement.{statement}
+use Rattle.plain_values.proofs.length.Tie as tie
+
+fields : (s : tie.Start) → FieldsOf (s .args .values .now) (fieldsOf (s .args .fields))
+fields s = fields-are _ _ (s .pre .0) (s .pre .1)
+
+packed-bytes-requires : tie.Need-packed-bytes-requires
+packed-bytes-requires c κs = (omega (arith, c .long .ensures, c .before .pre .2), fields (c .before) .narrow)
+
+returns : tie.Need-returns
+returns c =
+    let s = c .before .before in
+    let e = c .before .long .ensures in (
+      c .packed-bytes .ensures .0 ∙ ap₂ (λ (n w : ℕ). packedBytes n w) e (fields s .width-is) ∙ sym (length-section (s .args .values .now)),
+      omega (arith, c .packed-bytes .ensures .1, e),
+    )
+
+pub length-spec : {M : Type 1} → statement M
+length-spec = tie.close (tie.spec (λ c κs. search needs) packed-bytes-requires returns)

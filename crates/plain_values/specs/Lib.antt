@@ -1,0 +1,2 @@
+-- What stored numbers stand for.
+pub mod Held

@@ -1,0 +1,5 @@
+-- Laws that the functions' proofs cite.
+pub mod Guess
+pub mod Extremes
+pub mod Spread
+pub mod Keep

@@ -1,0 +1,42 @@
+-- `scaling::scale_of` meets its contract. Assumes nothing.
+use mathlib.Core.Path.{ap₂, _∙_}
+use Prim.Native.Nat.{_/_, _<_}
+use native.Mathlib.Omega.{arith}
+use Rattle.format.specs.Values.{divisor}
+use Rattle.format.proofs.Bounds.{divisor-is}
+use Rattle.scaling.proofs.Spread.{spread-is, smallest-is}
+use borrow.Author.Needs.{needs}
+use Rattle.scaling.proofs.scale_of.Statement.{statement}
+use Rattle.scaling.proofs.scale_of.Tie as tie
+
+divisor-of-requires : tie.Need-divisor-of-requires
+divisor-of-requires c κs = c .spread-of .ensures ∙ spread-is (c .before .ends-of .ensures)
+
+div-most : tie.Need-div-most
+div-most c =
+    let d : 0 < divisor (c .before .before .before .before .args .values .now) = divisor-is _ (c .before .before .before .ends-of .ensures .fit) .0 in
+    omega (arith, c .before .divisor-of .ensures)
+
+returns : tie.Need-returns
+returns c =
+    let g = c .before .divisor-of in
+    let d = c .before .before .spread-of in
+    let ends = c .before .before .before .ends-of .ensures in
+    let vs = c .before .before .before .before .args .values .now in
+    record {
+      smallest-is = c .number-of .ensures ∙ smallest-is vs _ (ends .low) (ends .fit);
+      divisor-is = g .ensures;
+      most-is = ap₂ _/_ (d .ensures ∙ spread-is ends) (g .ensures);
+      fit = ends .fit;
+    }
+
+pub scale-of-spec : {M : Type 1} → statement M
+scale-of-spec =
+    tie.close
+    (tie.spec
+    (λ c κs. search needs)
+    (λ c κs. search needs)
+    divisor-of-requires
+    (λ c κs. search needs)
+    div-most
+    returns)

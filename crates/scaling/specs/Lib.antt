@@ -1,0 +1,3 @@
+-- What the functions on values hand back.
+pub mod Scaled
+pub mod Reciprocal

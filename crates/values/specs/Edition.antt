@@ -1,0 +1,16 @@
+-- The code's edition, fields and value as the definitions' own; the tests of an edition's value section. Assumes nothing.
+use Prim.Native.Nat.{ℕ}
+use mathlib.Core.Bool.{Bool}
+use mathlib.Core.List.{List}
+use Rattle.format.specs.Codec.{Fields}
+use Rattle.format.specs.Editions.{Edition, plain}
+use Rattle.plain_check.specs.ValuesOk.{valuesOk}
+use Rattle.values.specs.declared.Edition as Ed
+pub use Rattle.format.specs.Replies.{fieldsOf, fetchedOf}
+
+abbrev pub editionOf : Ed.Edition → Edition
+editionOf Ed.Edition.Plain = plain
+
+-- given n, the header's fields and the section
+unfoldable pub tests : Edition → ℕ → Fields → List ℕ → Bool
+tests plain = valuesOk
