@@ -17,7 +17,7 @@ static const struct refusal refusals[] = {
     {"POWER", "the rank power must be 0 (no ranks) or 7 to 15"},
     {"ORDER", "ids must ascend, and one is not above the one before it"},
     {"RANGE", "an id is above the greatest allowed, 2147352575"},
-    {"OFFSET", "a block of ids would start at byte 2147483647 or later"},
+    {0, 0}, /* 5 is not used: it was OFFSET, which cannot happen (document 02, [7]) */
     {"ROOM", "the output is too short for the column"},
     {"SHORT", "the bytes end within the header: the column is empty or cut off"},
     {"NUMBER", "a number of the header is not in its shortest form or needs more than 64 bits: "
@@ -36,7 +36,8 @@ static const struct refusal unknown = {"UNKNOWN", "no refusal has this number"};
 
 static const struct refusal *refusal_of(uint64_t number)
 {
-    return number < sizeof refusals / sizeof refusals[0] ? &refusals[number] : &unknown;
+    int known = number < sizeof refusals / sizeof refusals[0] && refusals[number].name;
+    return known ? &refusals[number] : &unknown;
 }
 
 const char *signalfern_version(void)

@@ -59,7 +59,7 @@ enum {
     SIGNALFERN_POWER = 2,    /* the rank power is not 0 and not 7 to 15 */
     SIGNALFERN_ORDER = 3,    /* an id is not above the one before; with the first such index */
     SIGNALFERN_RANGE = 4,    /* an id is above SIGNALFERN_MAX_ID; with the first such index */
-    SIGNALFERN_OFFSET = 5,   /* a block would start at 2147483647 or later */
+    /* 5 is not used: it was OFFSET, which cannot happen (document 02, [7]) */
     SIGNALFERN_ROOM = 6,     /* the output is shorter than the column; with the bytes needed */
     SIGNALFERN_SHORT = 7,    /* the bytes end within a header number */
     SIGNALFERN_NUMBER = 8,   /* a header number is not minimal, or is 2^64 or more */
@@ -118,8 +118,8 @@ typedef struct {
  * block (SIGNALFERN_USUAL_POWER is a good choice).
  *
  * Done: number is the column's byte count; exactly these bytes of out were written, and those after
- * them stay as they were. Refused: 1 to 6, the lowest that applies, and out stays as it was. To
- * learn how many bytes are needed, call with out_len 0: the refusal is SIGNALFERN_ROOM.
+ * them stay as they were. Refused: 1 to 4 or 6, the lowest that applies, and out stays as it was.
+ * To learn how many bytes are needed, call with out_len 0: the refusal is SIGNALFERN_ROOM.
  */
 signalfern_reply signalfern_write(const uint32_t *ids, size_t ids_len,
                                   const int64_t *values, size_t values_len,

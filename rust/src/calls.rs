@@ -118,7 +118,7 @@ pub(crate) fn answer(answer: ffi::Answer) -> Result<Answer, Refusal> {
 /// # Errors
 ///
 /// The first that applies of [`Refusal::Lengths`], [`Refusal::Power`], [`Refusal::Order`],
-/// [`Refusal::Range`], [`Refusal::Offset`] and [`Refusal::Room`]; `out` then stays as it was.
+/// [`Refusal::Range`] and [`Refusal::Room`]; `out` then stays as it was.
 pub fn write(ids: &[u32], values: &[i64], power: u32, out: &mut [u8]) -> Result<usize, Refusal> {
     len(ffi::write(ids, values, power, out))
 }

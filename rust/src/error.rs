@@ -100,7 +100,6 @@ impl From<Refusal> for io::Error {
             | Refusal::Power
             | Refusal::Order { .. }
             | Refusal::Range { .. }
-            | Refusal::Offset
             | Refusal::Room { .. }
             | Refusal::Buffer { .. }
             | Refusal::Id => io::ErrorKind::InvalidInput,

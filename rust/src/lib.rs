@@ -29,7 +29,7 @@
 //!
 //! # Refusals
 //!
-//! What cannot be done is refused with one of fifteen [`Refusal`]s, tested in a fixed order, and a
+//! What cannot be done is refused with one of fourteen [`Refusal`]s, tested in a fixed order, and a
 //! refusal changes no lent byte.
 //!
 //! ```

@@ -1,9 +1,10 @@
-//! The fifteen refusals.
+//! The fourteen refusals.
 
 use std::error::Error;
 use std::fmt;
 
-/// Why a call refused. The order is that of document 01's table.
+/// Why a call refused. The order is that of document 01's table. 5 is not used: it was OFFSET,
+/// which cannot happen (document 02, request 7).
 #[derive(Clone, Copy, Debug, PartialEq, Eq, Hash)]
 #[non_exhaustive]
 #[must_use]
@@ -22,8 +23,6 @@ pub enum Refusal {
         /// The first such index.
         index: usize,
     },
-    /// A block would start at 2147483647 or later. The limits of ids keep every block below that.
-    Offset,
     /// The output is shorter than the column.
     Room {
         /// The column's bytes.
@@ -69,6 +68,7 @@ impl Refusal {
     /// assert_eq!(Refusal::from_number(3, 1), Some(Refusal::Order { index: 1 }));
     /// assert_eq!(Refusal::from_number(13, 0), Some(Refusal::Damaged));
     /// assert_eq!(Refusal::from_number(0, 0), None);
+    /// assert_eq!(Refusal::from_number(5, 0), None);
     /// ```
     #[must_use]
     pub const fn from_number(number: u64, with: u64) -> Option<Self> {
@@ -79,7 +79,7 @@ impl Refusal {
             2 => Self::Power,
             3 => Self::Order { index: with },
             4 => Self::Range { index: with },
-            5 => Self::Offset,
+            // 5 is not used: it was OFFSET, which cannot happen (document 02, [7])
             6 => Self::Room { needed: with },
             7 => Self::Short { bytes: with },
             8 => Self::Number { place: with },
@@ -100,7 +100,7 @@ impl Refusal {
             .unwrap_or_else(|| panic!("libsignalfern_c gave refusal {number}, unknown here"))
     }
 
-    /// The number in document 01, 1 to 15.
+    /// The number in document 01, 1 to 15 without 5.
     #[must_use]
     pub const fn number(self) -> u64 {
         match self {
@@ -108,7 +108,7 @@ impl Refusal {
             Self::Power => 2,
             Self::Order { .. } => 3,
             Self::Range { .. } => 4,
-            Self::Offset => 5,
+            // 5 is not used: it was OFFSET, which cannot happen (document 02, [7])
             Self::Room { .. } => 6,
             Self::Short { .. } => 7,
             Self::Number { .. } => 8,
@@ -145,7 +145,6 @@ impl Refusal {
             Self::Power => "POWER",
             Self::Order { .. } => "ORDER",
             Self::Range { .. } => "RANGE",
-            Self::Offset => "OFFSET",
             Self::Room { .. } => "ROOM",
             Self::Short { .. } => "SHORT",
             Self::Number { .. } => "NUMBER",
@@ -175,7 +174,6 @@ impl fmt::Display for Refusal {
                 "the id at index {index} is above the greatest allowed, {}",
                 crate::MAX_ID
             ),
-            Self::Offset => write!(f, "a block of ids would start at byte 2147483647 or later"),
             Self::Room { needed } => write!(
                 f,
                 "the output is too short: the column takes {needed} bytes"
@@ -231,7 +229,7 @@ mod tests {
 
     #[test]
     fn numbers_go_there_and_back() {
-        for number in 1..=15 {
+        for number in (1..=4).chain(6..=15) {
             let refusal = Refusal::given(number, 77);
             assert_eq!(Refusal::from_number(number, 77), Some(refusal));
             assert_eq!(refusal.number(), number);
@@ -245,7 +243,7 @@ mod tests {
 
     #[test]
     fn a_number_outside_the_table_is_no_refusal() {
-        for number in [0, 16, 17, u64::MAX] {
+        for number in [0, 5, 16, 17, u64::MAX] {
             assert_eq!(Refusal::from_number(number, 0), None);
         }
     }

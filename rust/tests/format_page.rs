@@ -61,6 +61,6 @@ fn refusals_by_number_and_name() {
         let mut cells = line.strip_prefix("| ")?.split(" | ");
         Some((cells.next()?.parse::<u64>().ok()?, cells.next()?))
     });
-    let known = (1..=15).map(|number| (number, Refusal::from_number(number, 0).unwrap().name()));
-    assert!(rows.eq(known));
+    let known = (1..=15).filter_map(|number| Refusal::from_number(number, 0));
+    assert!(rows.eq(known.map(|refusal| (refusal.number(), refusal.name()))));
 }

@@ -127,10 +127,9 @@ fn build(compiler: &str, language: &[&str], link: &[String], program: &str) -> O
 fn check_printed(printed: &str) {
     let mut lines = printed.lines();
     assert_eq!(lines.next(), Some(VERSION));
-    for number in 1..=15 {
-        let refusal = Refusal::from_number(number, 4321).unwrap();
+    for refusal in (1..=15).filter_map(|number| Refusal::from_number(number, 4321)) {
         let mut words = lines.next().unwrap().splitn(3, ' ');
-        assert_eq!(words.next(), Some(number.to_string().as_str()));
+        assert_eq!(words.next(), Some(refusal.number().to_string().as_str()));
         assert_eq!(words.next(), Some(refusal.name()));
         // C tells the number with a refusal apart from its sentence.
         let (text, ours) = (words.next().unwrap(), refusal.to_string());

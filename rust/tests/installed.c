@@ -22,6 +22,7 @@ int main(void)
     PROMISE(strcmp(version, SIGNALFERN_VERSION) == 0);
     PROMISE(strcmp(version, signalfern_version()) == 0);
     PROMISE(strcmp(signalfern_refusal_name(0), "NONE") == 0);
+    PROMISE(strcmp(signalfern_refusal_name(5), "UNKNOWN") == 0 && strlen(signalfern_refusal_text(5)) > 0);
     PROMISE(strcmp(signalfern_refusal_name(16), "UNKNOWN") == 0);
     PROMISE(strcmp(signalfern_refusal_name(UINT64_MAX), "UNKNOWN") == 0);
     PROMISE(strlen(signalfern_refusal_text(0)) > 0 && strlen(signalfern_refusal_text(16)) > 0);
@@ -53,7 +54,10 @@ int main(void)
     PROMISE(signalfern_look_up_in(opened, column, len, 3).kind == SIGNALFERN_ABSENT);
 
     printf("%s\n", signalfern_version());
-    for (uint64_t refusal = 1; refusal <= 15; refusal++)
+    for (uint64_t refusal = 1; refusal <= 15; refusal++) {
+        if (refusal == 5) /* not used */
+            continue;
         printf("%" PRIu64 " %s %s\n", refusal, signalfern_refusal_name(refusal), signalfern_refusal_text(refusal));
+    }
     return 0;
 }

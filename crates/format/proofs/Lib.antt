@@ -43,3 +43,4 @@ pub mod FromEntry
 pub mod Looked
 pub mod Walked
 pub mod Words
+pub mod Retired

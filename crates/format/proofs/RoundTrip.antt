@@ -23,7 +23,7 @@ use Rattle.format.specs.Writer.{notAbove, orderFault, rangeFault, writeA
 use Rattle.format.specs.Opening.{headOk, Opened, openColumn, idPart, valuePart, valueIn}
 use Rattle.format.specs.Check.{allValues, pairsIn, isDone, isColumn, accepted, check, reading}
 use Rattle.format.proofs.Places.{asc-length}
-use Rattle.format.proofs.Section.{length-idSection, length-blocks}
+use Rattle.format.proofs.Section.{length-idSection}
 use Rattle.format.proofs.Blocks.{read-runs}
 use Rattle.format.proofs.Runs.{ids-runs, fine-runs}
 use Rattle.format.proofs.Jumps.{asc-blocks}
@@ -110,11 +110,6 @@ module _ (p : ℕ) (ids : List ℕ) (vs : List ℤ) (ok : Valid p ids vs) where
       (omega (arith, section-is, runs-le p (runs ids))))
       ∙ ids-runs ids
 
-  -- no start comes near OFFSET's line
-  pub starts-low : length (blocks p ids) < 2147483647
-  unfolding blocks
-  starts-low = omega (arith, length-blocks p (runs ids) power16, blocks-le)
-
 -- ---- the column of a list, as it is opened
 
 module _ (ed : Edition) (p : ℕ) (ids : List ℕ) (vs : List ℤ) where
@@ -198,7 +193,6 @@ module _ (ed : Edition) (law : Lawful (codec ed)) (p : ℕ) (ids : List ℕ) (vs
         ok .power,
         in-order ids (ok .ascending),
         in-range 0 ids (ok .range),
-        lt-ltb (length (blocks p ids)) 2147483647 (starts-low p ids vs ok),
       )
 
   pub written : (room : ℕ) → length bytes ≤ room → writeAs ed p ids vs room ≡ done bytes

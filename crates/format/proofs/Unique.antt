@@ -85,8 +85,7 @@ written-valid ed p ids vs room out fit e =
     let s2 = needed _ _ _ _ out (s1 .1) in
     let s3 = needed-none _ _ _ out (s2 .1) in
     let s4 = needed-none _ _ _ out (s3 .1) in
-    let s5 = needed _ _ _ _ out (s4 .1) in
-    let s6 = needed _ _ _ _ out (s5 .1) in (
+    let s5 = needed _ _ _ _ out (s4 .1) in (
       record {
         lengths = eqb-true (length ids) (length vs) (s1 .0);
         power = s2 .0;
@@ -94,7 +93,7 @@ written-valid ed p ids vs room out fit e =
         range = ranged 0 ids (s4 .0);
         fit = fit;
       },
-      ap (result []) (s6 .1),
+      ap (result []) (s5 .1),
     )
 
 -- a column of the edition and the power that a header has

@@ -1,5 +1,5 @@
--- The writer: refusals 1 to 6 in order, each over the whole input before the next (document 01, "Refusal numbers").
--- Assumes nothing.
+-- The writer: refusals 1 to 4 and 6 in order, each over the whole input before the next (document 01, "Refusal numbers"; document 02, [7],
+-- took 5 out). Assumes nothing.
 use Prim.Native.Nat.{ℕ, suc}
 use mathlib.Core.Bool.{cond}
 use mathlib.Core.List.{List, [], _∷_, _++_}
@@ -7,9 +7,8 @@ use mathlib.Core.Option.{Option, none, some}
 use lib.ListN.{length, drop}
 use lib.Dec.{leb, ltb, eqb}
 use lib.IntN.{ℤ}
-use Rattle.format.specs.Limits.{maxId, powerOk, startLimit}
-use Rattle.format.specs.Refusals.{Outcome, done, refused, need, needNone, LENGTHS, POWER, ORDER, RANGE, OFFSET, ROOM}
-use Rattle.format.specs.Ids.{blocks}
+use Rattle.format.specs.Limits.{maxId, powerOk}
+use Rattle.format.specs.Refusals.{Outcome, done, refused, need, needNone, LENGTHS, POWER, ORDER, RANGE, ROOM}
 use Rattle.format.specs.Editions.{Edition, plain}
 use Rattle.format.specs.Column.{column}
 
@@ -27,7 +26,7 @@ unfoldable pub rangeFault : ℕ → List ℕ → Option ℕ
 rangeFault i [] = none
 rangeFault i (x ∷ xs) = cond (leb x maxId) (rangeFault (suc i) xs) (some i)
 
--- the column of an edition, for an output of `room` bytes; the last start of a block is the end block's
+-- the column of an edition, for an output of `room` bytes
 unfoldable pub writeAs : Edition → ℕ → List ℕ → List ℤ → ℕ → Outcome (List ℕ)
 writeAs ed p ids vs room =
     let out : List ℕ = column ed p ids vs in
@@ -35,9 +34,8 @@ writeAs ed p ids vs room =
     (need (powerOk p) POWER 0
     (needNone (orderFault ids) ORDER
     (needNone (rangeFault 0 ids) RANGE
-    (need (ltb (length (blocks p ids)) startLimit) OFFSET 0
     (need (leb (length out) room) ROOM (length out)
-    (done out))))))
+    (done out)))))
 
 -- the call writes edition 1
 abbrev pub write : ℕ → List ℕ → List ℤ → ℕ → Outcome (List ℕ)

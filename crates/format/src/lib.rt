@@ -3,13 +3,13 @@
 ghost use mathlib.Core.Path.{_≡_};
 ghost use Rattle.format.specs.Replies.{refusalNumber, refusalWith};
 
-// Document 01's refusals, each with the number that goes with it, where that is not always 0.
+// Document 01's refusals, each with the number that goes with it, where that is not always 0. There is no OFFSET, which cannot happen
+// (document 02, [7]).
 pub enum Refusal {
     Lengths,
     Power,
     Order(u64),
     Range(u64),
-    Offset,
     Room(u64),
     Short,
     Number,
@@ -64,7 +64,7 @@ impl Refusal {
             Refusal::Power => 2,
             Refusal::Order(_) => 3,
             Refusal::Range(_) => 4,
-            Refusal::Offset => 5,
+            // 5 is not used: it was OFFSET, which cannot happen (document 02, [7])
             Refusal::Room(_) => 6,
             Refusal::Short => 7,
             Refusal::Number => 8,
@@ -89,7 +89,6 @@ impl Refusal {
             Refusal::Buffer(n) => n,
             Refusal::Lengths => 0,
             Refusal::Power => 0,
-            Refusal::Offset => 0,
             Refusal::Short => 0,
             Refusal::Number => 0,
             Refusal::Edition => 0,

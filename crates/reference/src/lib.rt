@@ -139,7 +139,8 @@ fn put_column(out: &mut [u8], ids: &[u32], values: &[u64], f: header::Fields) {
     values::put_values(out, end, values, facts, times(f.count, f.width));
 }
 
-// Writes the column to the front of out. OFFSET cannot come: 32766 blocks of at most 9220 bytes end far below 2147483647.
+// Writes the column to the front of out. No start needs a test: 32766 blocks of at most 9220 bytes end far below 2147483647 (document 02,
+// [7]).
 pub fn write(ids: &[u32], values: &[u64], power: u64, out: &mut [u8]) -> Outcome {
     let why = judged(ids, values, power);
     if why.number != 0 {

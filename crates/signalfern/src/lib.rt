@@ -15,8 +15,8 @@ use column::Column;
 use format::Answer;
 use format::Reply;
 
-// Writes the column of the pairs (ids, values) at rank power `power` into `out` and hands back its byte count. Refusals 1 to 6 in
-// order, each over the whole input before the next; a refusal changes nothing, and success exactly the column's bytes.
+// Writes the column of the pairs (ids, values) at rank power `power` into `out` and hands back its byte count. Refusals 1 to 4
+// and 6 in order, each over the whole input before the next; a refusal changes nothing, and success exactly the column's bytes.
 pub fn write(ids: &[u32], values: &[i64], power: u32, out: &mut [u8]) -> Reply
     ensures replies { λ r. ⌜ replyOf r ≡ writeReply (write power (now (ids .entry)) (now (values .entry)) (length (now (out .entry)))) ⌝ }
     ensures written { λ _.

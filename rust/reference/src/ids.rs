@@ -1,13 +1,11 @@
 //! The id section: blocks, rank tables, the end block and the jump entries.
 
-use crate::{Column, Refusal, MAX_ID};
+use crate::{Column, MAX_ID};
 
 /// The end block.
 const END: [u8; 6] = [0xFF, 0x7F, 0, 0, 0xFF, 0xFF];
 const END_NUMBER: u16 = 0x7FFF;
 const LAST_NUMBER: u16 = (MAX_ID >> 16) as u16;
-/// A block starts below this.
-const OFFSET_LIMIT: u64 = 2_147_483_647;
 const WORDS: usize = 1024;
 const BITMAP_BYTES: usize = 8 * WORDS;
 
@@ -67,25 +65,21 @@ pub(crate) struct Layout {
 }
 
 impl Layout {
-    pub fn of(ids: &[u32], power: u32) -> Result<Self, Refusal> {
-        let mut block_bytes = 0;
-        for block in blocks_of(ids) {
-            if block_bytes >= OFFSET_LIMIT {
-                return Err(Refusal::OFFSET);
-            }
-            block_bytes += 4 + data_bytes(block.len(), power) as u64;
-        }
+    pub fn of(ids: &[u32], power: u32) -> Self {
+        let block_bytes = blocks_of(ids)
+            .map(|block| 4 + data_bytes(block.len(), power) as u64)
+            .sum();
         let jump_count = match ids.last() {
             None => 1,
             // Two entries are written as none.
             Some(&last) if block_number(last) == 0 => 0,
             Some(&last) => u64::from(block_number(last)) + 2,
         };
-        Ok(Self {
+        Self {
             power,
             block_bytes,
             jump_count,
-        })
+        }
     }
 
     pub fn bytes(&self) -> u64 {

@@ -1,6 +1,6 @@
-//! Document 01 once more, in plain safe Rust.
+//! Document 01, as document 02 amends it, once more in plain safe Rust.
 //!
-//! Written from the document alone, so that the tests can hold the proved library against a second
+//! Written from the documents alone, so that the tests can hold the proved library against a second
 //! opinion and the benchmarks have something to measure it by. Nothing here is proved, and the
 //! library does not use it. Like the library it allocates nothing.
 #![cfg_attr(not(test), no_std)]
@@ -25,7 +25,7 @@ pub const MAX_WIDTH: u64 = 64;
 /// A refusal: its number in document 01, and the number with it.
 #[derive(Clone, Copy, Debug, PartialEq, Eq)]
 pub struct Refusal {
-    /// 1 to 15.
+    /// 1 to 15, without 5.
     pub number: u64,
     /// An index, a byte count, a pair count or 0.
     pub with: u64,
@@ -38,7 +38,7 @@ impl Refusal {
 
     const LENGTHS: Self = Self::new(1, 0);
     const POWER: Self = Self::new(2, 0);
-    const OFFSET: Self = Self::new(5, 0);
+    // 5 is not used: it was OFFSET, which cannot happen (document 02, [7])
     const SHORT: Self = Self::new(7, 0);
     const NUMBER: Self = Self::new(8, 0);
     const EDITION: Self = Self::new(9, 0);
@@ -104,7 +104,7 @@ pub fn write(ids: &[u32], values: &[i64], power: u32, out: &mut [u8]) -> Result<
     if within < ids.len() {
         return Err(Refusal::range(within));
     }
-    let layout = ids::Layout::of(ids, power)?;
+    let layout = ids::Layout::of(ids, power);
     let plan = values::Plan::of(values);
     let column = Column {
         edition: header::EDITION,

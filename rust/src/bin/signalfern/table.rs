@@ -72,7 +72,7 @@ stands for standard output.";
 
 pub const STATUS: &str = "Exit status: 0 done; 1 the input is refused (the refusal's number, name \
 and meaning stand on standard error, and nothing is written); 2 the command line is wrong or a file \
-cannot be used. Refusals 1 to 15 are the library's, those from 101 the tool's.";
+cannot be used. Refusals 1 to 15 are the library's (5 is not used), those from 101 the tool's.";
 
 /// What "sound" means, wherever the word is used.
 pub const SOUND: &str = "Sound means: the bytes are the column of one list of pairs, to the last \
