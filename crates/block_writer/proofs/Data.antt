@@ -1,9 +1,6 @@
 -- A block's bytes by its kind. Assumes nothing.
-use mathlib.Core.Path.{_≡_, refl, sym, ap, ap₂, _∙_}
-use mathlib.Core.List.{List, [], _++_}
-use Prim.Native.Nat.{ℕ, _+_, _-_, _*_, _/_, _%_, _≤_, _<_, zero-le}
-use lib.ListN.{length, getD, length-map}
-use lib.Seq.{sets}
+use Rattle.format.specs.Kit.{_≡_, refl, sym, ap, ap₂, _∙_, List, [], _++_, ℕ, _+_, _-_, _*_, _/_, _%_, _≤_, _<_, zero-le, length, getD, length-map}
+use Rattle.format.specs.Kit.{sets}
 use Rattle.format.specs.Bytes.{digits, low, bytesOf}
 use Rattle.format.specs.Ids.{byKind, kindOf, rankBytes, dataBytes, blockBytes, blockData, blockOf}
 use Rattle.format.proofs.Digits.{length-digits}

@@ -1,14 +1,7 @@
 -- Words laid one after another. The loop's invariant holds since a word is the low 64 bits of what is left, and what stays is the rest.
 -- Assumes nothing.
-use mathlib.Core.Path.{_≡_, refl, sym, ap, ap₂, _∙_, subst}
-use mathlib.Core.List.{List}
-use Prim.Native.Nat.{ℕ, _+_, _-_, _*_, _/_, _%_, _^_, _≤_, _<_, zero-le}
-use native.Mathlib.Nat.{add-assoc, add-zero, div-one}
-use native.Mathlib.Omega.{arith}
-use lib.Dec.{lit<}
-use lib.Count.{ones}
-use lib.ListN.{length}
-use lib.Seq.{sets}
+use Rattle.format.specs.Kit.{_≡_, refl, sym, ap, ap₂, _∙_, subst, List, ℕ, _+_, _-_, _*_, _/_, _%_, _^_, _≤_, _<_, zero-le, add-assoc, add-zero}
+use Rattle.format.specs.Kit.{div-one, arith, lit<, ones, length, sets}
 use Rattle.format.specs.Bytes.{digits, low}
 use Rattle.format.proofs.Digits.{length-digits, digits-append, digits-mod, pow-pow, div-pow}
 use Rattle.format.proofs.Ones.{ones-join, ones-of-none}

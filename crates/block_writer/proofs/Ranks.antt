@@ -1,16 +1,7 @@
 -- Ranks and words laid side by side. The loop over strides keeps: what is still to be laid, ranks at their place and words at theirs, gives
 -- what the whole gives; the two never meet, so that their stores may change places. Assumes nothing.
-use mathlib.Core.Path.{_≡_, refl, sym, ap, ap₂, _∙_}
-use mathlib.Core.List.{List, [], _++_}
-use Prim.Native.Nat.{ℕ, suc, _+_, _-_, _*_, _/_, _%_, _^_, _≤_, _<_, zero-le}
-use native.Mathlib.Nat.{suc-mul, zero-mul, mul-le-mul-right, div-one, mul-assoc, mul-comm}
-use native.Mathlib.Numerals.{add-one}
-use native.Mathlib.Omega.{arith}
-use lib.Pow.{pow-add}
-use lib.Count.{ones}
-use lib.ListN.{length}
-use lib.Seq.{sets}
-use borrow.Author.Tests.{ne-eqb}
+use Rattle.format.specs.Kit.{_≡_, refl, sym, ap, ap₂, _∙_, List, [], _++_, ℕ, suc, _+_, _-_, _*_, _/_, _%_, _^_, _≤_, _<_, zero-le, suc-mul, zero-mul}
+use Rattle.format.specs.Kit.{mul-le-mul-right, div-one, mul-assoc, mul-comm, add-one, arith, pow-add, ones, length, sets, ne-eqb}
 use Rattle.format.specs.Limits.{minPower, maxPower}
 use Rattle.format.specs.Bytes.{digits, low, high, bytesOf, countFrom}
 use Rattle.format.specs.Ids.{countBelow, rankTable, rankBytes}

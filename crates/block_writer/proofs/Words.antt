@@ -1,15 +1,7 @@
 -- A word gathered from ids. The loop's invariant holds since the ids ascend: each bit is above those gathered, so that their sum is no more than
 -- the word's low bits. Assumes nothing.
-use mathlib.Core.Path.{_≡_, refl, sym, ap, ap₂, _∙_, subst}
-use mathlib.Core.List.{List, [], _∷_}
-use Prim.Native.Nat.{ℕ, suc, _+_, _-_, _*_, _/_, _%_, _^_, _≤_, _<_, zero-le}
-use native.Mathlib.Nat.{mul-add, pow-suc, zero-add, mul-zero}
-use native.Mathlib.Numerals.{add-one}
-use native.Mathlib.Omega.{arith}
-use lib.Dec.{lit<}
-use lib.Pow.{pow-add, pow-mono}
-use lib.ListN.{length, getD, drop-of-length-le}
-use lib.Seq.{drop-cons}
+use Rattle.format.specs.Kit.{_≡_, refl, sym, ap, ap₂, _∙_, subst, List, [], _∷_, ℕ, suc, _+_, _-_, _*_, _/_, _%_, _^_, _≤_, _<_, zero-le, mul-add}
+use Rattle.format.specs.Kit.{pow-suc, zero-add, mul-zero, add-one, arith, lit<, pow-add, pow-mono, length, getD, drop-of-length-le, drop-cons}
 use Rattle.format.specs.Pairs.{Asc}
 use Rattle.format.specs.Runs.{bitsAbove}
 use Rattle.format.proofs.Places.{asc-weaken, bits-nil}

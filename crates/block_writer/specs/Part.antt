@@ -1,8 +1,5 @@
 -- What the functions over one block's ids say. Assumes nothing.
-use mathlib.Core.Path.{_≡_}
-use mathlib.Core.List.{List, map, _++_}
-use Prim.Native.Nat.{ℕ, _+_, _*_, _/_, _%_, _^_, _≤_}
-use lib.ListN.{length, getD, drop}
+use Rattle.format.specs.Kit.{_≡_, List, map, _++_, ℕ, _+_, _*_, _/_, _%_, _^_, _≤_, length, getD, drop}
 use Rattle.format.specs.Limits.{blockPlaces, bitmapBytes}
 use Rattle.format.specs.Bytes.{low}
 use Rattle.format.specs.Ids.{Run, rankTable, bitmap}

@@ -1,10 +1,5 @@
 -- The ones of consecutive longs: the turns of a loop over them. Assumes nothing.
-use mathlib.Core.Path.{_≡_, ap, ap₂}
-use mathlib.Core.List.{List}
-use Prim.Native.Nat.{ℕ, suc, _+_, _-_, _*_, _<_, _≤_}
-use native.Mathlib.Nat.{add-zero}
-use native.Mathlib.Omega.{arith}
-use lib.Count.{onesIn}
+use Rattle.format.specs.Kit.{_≡_, ap, ap₂, List, ℕ, suc, _+_, _-_, _*_, _<_, _≤_, add-zero, arith, onesIn}
 use Rattle.format.specs.Bytes.{lowAt}
 use Rattle.format.specs.LookUp.{onesFrom}
 

@@ -1,11 +1,6 @@
 -- What each step of the check's code finds, by the definitions. Assumes nothing.
-use mathlib.Core.Path.{_≡_, refl, sym, ap, ap₂, _∙_}
-use mathlib.Core.Bool.{Bool, true, false, _&&_}
-use mathlib.Core.List.{List}
-use Prim.Native.Nat.{ℕ, _+_, _-_}
-use native.Mathlib.Omega.{arith}
-use lib.ListN.{length, take, drop, length-drop}
-use lib.Seq.{take-all}
+use Rattle.format.specs.Kit.{_≡_, refl, sym, ap, ap₂, _∙_, Bool, true, false, _&&_, List, ℕ, _+_, _-_, arith, length, take, drop, length-drop}
+use Rattle.format.specs.Kit.{take-all}
 use Rattle.format.specs.Refusals.{Outcome, done, refused, andThen, DAMAGED}
 use Rattle.format.specs.Pairs.{Pairs}
 use Rattle.format.specs.Editions.{editions}

@@ -1,12 +1,6 @@
 -- An opened column passes the tests exactly if the definition accepts it: the tests give the two halves, ids and values, and are given by
 -- them. Assumes nothing.
-use mathlib.Core.Path.{_≡_, refl, sym, ap, ap₂, _∙_}
-use mathlib.Core.Bool.{Bool, true, false}
-use mathlib.Core.List.{List}
-use Prim.Native.Nat.{ℕ}
-use native.Mathlib.Omega.{arith}
-use lib.ListN.{drop}
-use borrow.Author.Tests.{eqb-true, eq-eqb}
+use Rattle.format.specs.Kit.{_≡_, refl, sym, ap, ap₂, _∙_, Bool, true, false, List, ℕ, arith, drop, eqb-true, eq-eqb}
 use Rattle.format.specs.Limits.{Power}
 use Rattle.format.specs.Refusals.{Outcome, done, refused}
 use Rattle.format.specs.Pairs.{Pairs, Below}
@@ -62,7 +56,8 @@ module _ (bytes : List ℕ) (c : Opened) (u : Below 256 bytes) (opens : openColu
   taken : columnOk bytes c ≡ true → isTaken (accepted bytes c) ≡ true
   unfolding columnOk idsOk isTaken
   taken t =
-      let b = both-true (holds (hd .count) (judge (hd .power) (hd .jumpCount) (idPart bytes c))) (tests (hd .edition) (hd .count) (hd .fields) (valuePart bytes c)) t in
+      let b = both-true (holds (hd .count) (judge (hd .power) (hd .jumpCount) (idPart bytes c)))
+      (tests (hd .edition) (hd .count) (hd .fields) (valuePart bytes c)) t in
       let i = judge-sound (hd .power) power (hd .jumpCount) (idPart bytes c) (hd .count) below-ids (holds-true (hd .count) _ (b .0)) in
       let v = tested (hd .edition) .sound (hd .count) (hd .fields) (valuePart bytes c) (kept editions bytes c u opens) (b .1) in
       ap isTaken (halves-accepted editions (lawful-reader editions) bytes c u opens i v)

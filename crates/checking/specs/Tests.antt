@@ -1,9 +1,6 @@
 -- The tests of an opened column: its id section is judged with the header's numbers, then its value section is tested.
 -- Assumes nothing.
-use Prim.Native.Nat.{ℕ}
-use mathlib.Core.Bool.{Bool, true, false, _&&_}
-use mathlib.Core.List.{List}
-use lib.Dec.{eqb}
+use Rattle.format.specs.Kit.{ℕ, Bool, true, false, _&&_, List, eqb}
 use Rattle.format.specs.Refusals.{Outcome, done, refused}
 use Rattle.format.specs.Pairs.{Pairs}
 use Rattle.format.specs.Column.{Head}

@@ -1,8 +1,5 @@
 -- Opening a column step by step: the first step that fails decides. Assumes nothing.
-use mathlib.Core.Path.{_≡_}
-use mathlib.Core.List.{List}
-use mathlib.Core.Option.{none, some}
-use Prim.Native.Nat.{ℕ}
+use Rattle.format.specs.Kit.{_≡_, List, none, some, ℕ}
 use Rattle.format.specs.Refusals.{done, refused, andThen, given, EDITION}
 use Rattle.format.specs.Replies.{refusedAs}
 use Rattle.format.specs.declared.Refusal.{Refusal}

@@ -1,7 +1,6 @@
 -- What the computed cases open: every definition that a public call computes with. `unfolding computing` opens all that is named here.
 -- Assumes nothing.
-use mathlib.Core.Option.{bind}
-use lib.Count.{onesIn}
+use Rattle.format.specs.Kit.{bind, onesIn}
 use Rattle.format.specs.Refusals.{andThen, need, given, needNone}
 use Rattle.format.specs.Bytes.{bytesOf, countFrom, digits, same, fromDigits, lowAt, highAt}
 use Rattle.format.specs.HeaderNumbers.{groups, number, above, readGroups, readNumber, gotAt, numberAt, numbersAt}

@@ -2,15 +2,8 @@
 -- the walk and the list, with its words (demand 3), header numbers, and the look-up in an opened column. Demands 2 and 3 are stated
 -- once, for every edition whose codec is lawful and every reader of such editions, and then for edition 1. Each statement cites
 -- definitions of specs/ and `Lawful` only. The starred cases are `Starred.starred`. Assumes nothing.
-use mathlib.Core.Path.{_≡_, refl, sym, ap, ap₂, _∙_, subst}
-use mathlib.Core.Bool.{true, false}
-use mathlib.Core.List.{List, _++_}
-use Prim.Native.Nat.{ℕ, _^_, _<_, _≤_}
-use native.Mathlib.Omega.{arith}
-use lib.Dec.{leb}
-use lib.IntN.{ℤ, pos}
-use lib.ListN.{length, getD, drop}
-use borrow.Author.Tests.{leb-true}
+use Rattle.format.specs.Kit.{_≡_, refl, sym, ap, ap₂, _∙_, subst, true, false, List, _++_, ℕ, _^_, _<_, _≤_, arith, leb, ℤ, pos, length, getD}
+use Rattle.format.specs.Kit.{drop, leb-true}
 use Rattle.format.specs.Limits.{maxId}
 use Rattle.format.specs.Refusals.{Outcome, done, refused, andThen, need, ROOM, DAMAGED}
 use Rattle.format.specs.HeaderNumbers.{number, got, readNumber}

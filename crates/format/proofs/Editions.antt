@@ -1,13 +1,5 @@
 -- The editions: their numbers, edition 1 in document 01's words, and that the codec of each is lawful. Assumes nothing.
-use mathlib.Core.Path.{_≡_, refl, _∙_}
-use mathlib.Core.Bool.{false, _&&_}
-use mathlib.Core.List.{List, [], _∷_}
-use mathlib.Core.Option.{some}
-use Prim.Native.Nat.{ℕ, _^_, _<_}
-use native.Mathlib.Omega.{arith}
-use lib.Dec.{leb, eqb, lit<}
-use lib.IntN.{ℤ}
-use borrow.Author.Tests.{le-leb, lt-leb, eqb-true}
+use Rattle.format.specs.Kit.{_≡_, refl, _∙_, false, _&&_, List, [], _∷_, some, ℕ, _^_, _<_, arith, leb, eqb, lit<, ℤ, le-leb, lt-leb, eqb-true}
 use Rattle.format.specs.Limits.{maxWidth}
 use Rattle.format.specs.HeaderNumbers.{zigzag, unzigzag}
 use Rattle.format.specs.Bits.{packedBytes, packed, fetched}

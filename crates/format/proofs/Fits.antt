@@ -1,13 +1,7 @@
 -- Signed 64-bit numbers: `Fits` by the size, their header numbers, and that the smallest and the greatest value are such numbers.
 -- Assumes nothing.
-use mathlib.Core.Path.{_≡_}
-use mathlib.Core.List.{List, [], _∷_}
-use Prim.Native.Nat.{ℕ, _+_, _*_, _/_, _%_, _^_, _<_}
-use native.Mathlib.Omega.{arith}
-use lib.Dec.{lit<}
-use lib.IntN.{ℤ, pos, negsuc}
-use lib.Signed.{mag}
-use borrow.Author.Tests.{eq-eqb, ne-eqb, ltb-true, lt-ltb}
+use Rattle.format.specs.Kit.{_≡_, List, [], _∷_, ℕ, _+_, _*_, _/_, _%_, _^_, _<_, arith, lit<, ℤ, pos, negsuc, mag, eq-eqb, ne-eqb, ltb-true}
+use Rattle.format.specs.Kit.{lt-ltb}
 use Rattle.format.specs.HeaderNumbers.{zigzag, unzigzag}
 use Rattle.format.specs.Values.{smallest, greatest}
 use Rattle.format.specs.Pairs.{Each, Fits}

@@ -1,15 +1,7 @@
 -- The look-up from the entry of the id's block (steps 2 to 7), by any rule that finds what is listed, answers as the pair list does.
 -- Assumes nothing.
-use mathlib.Core.Path.{_≡_, refl, sym, ap, _∙_, subst}
-use mathlib.Core.Bool.{true, cond, not, _||_}
-use mathlib.Core.List.{List, [], _∷_, _++_, append-assoc}
-use mathlib.Core.Option.{some}
-use Prim.Native.Nat.{ℕ, _+_, _-_, _*_, _/_, _%_, _<_, _≤_}
-use native.Mathlib.Omega.{arith}
-use lib.Dec.{eqb, leb}
-use lib.IntN.{ℤ, pos}
-use lib.ListN.{length, getD, drop}
-use borrow.Author.Tests.{eq-eqb, ne-eqb, le-leb}
+use Rattle.format.specs.Kit.{_≡_, refl, sym, ap, _∙_, subst, true, cond, not, _||_, List, [], _∷_, _++_, append-assoc, some, ℕ, _+_, _-_, _*_}
+use Rattle.format.specs.Kit.{_/_, _%_, _<_, _≤_, arith, eqb, leb, ℤ, pos, length, getD, drop, eq-eqb, ne-eqb, le-leb}
 use Rattle.format.specs.Refusals.{Outcome, done, andThen, need, given}
 use Rattle.format.specs.Bytes.{bytesOf}
 use Rattle.format.specs.Ids.{Run, runs, idSection, jumps, blocks, blockOf, blockBytes, endBlock, entryBytes, countBelow, kindOf, byKind}

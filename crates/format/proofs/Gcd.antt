@@ -1,12 +1,8 @@
 -- The greatest common divisor: what makes it one, Euclid's step, and the divisor of a list of numbers, whatever they are taken from.
 -- Assumes nothing.
-use mathlib.Core.Path.{_≡_, refl, sym, ap, _∙_, subst}
-use mathlib.Core.List.{List, [], _∷_, map}
-use Prim.Native.Nat.{ℕ, zero, suc, _+_, _-_, _*_, _/_, _%_, _<_, _∣_}
-use native.Mathlib.Nat.{mod-lt, zero-lt-suc, dvd-refl, dvd-zero, dvd-trans, dvd-sub, dvd-mod-iff, dvd-antisymm, dvd-mul-left, dvd-mul-right-of-dvd, one-dvd}
-use native.Mathlib.Nat.{mul-add, mul-comm, mul-assoc, div-add-mod'}
-use native.Mathlib.Omega.{arith}
-use lib.IntN.{ℤ, natAbs}
+use Rattle.format.specs.Kit.{_≡_, refl, sym, ap, _∙_, subst, List, [], _∷_, map, ℕ, zero, suc, _+_, _-_, _*_, _/_, _%_, _<_, _∣_, mod-lt}
+use Rattle.format.specs.Kit.{zero-lt-suc, dvd-refl, dvd-zero, dvd-trans, dvd-sub, dvd-mod-iff, dvd-antisymm, dvd-mul-left, dvd-mul-right-of-dvd}
+use Rattle.format.specs.Kit.{one-dvd, mul-add, mul-comm, mul-assoc, div-add-mod', arith, ℤ, natAbs}
 use Rattle.format.specs.Values.{gcdIn, gcd, gcdOf}
 use Rattle.format.specs.Pairs.{Each}
 

@@ -1,16 +1,8 @@
 -- Opened bytes are accepted exactly if the id section is that of n ids, with J entries, and the value section, with the header's w,
 -- smallest value and g, is that of n values in the header's edition. So a check of a column owes two laws: one of the id section, and
 -- one for each codec, `Tested`. Assumes nothing.
-use mathlib.Core.Path.{_≡_, refl, sym, ap, ap₂, _∙_, subst}
-use mathlib.Core.Bool.{Bool, true}
-use mathlib.Core.List.{List, [], _∷_, _++_, append-assoc}
-use mathlib.Core.Option.{some}
-use Prim.Native.Nat.{ℕ, zero, suc, _+_, _^_, _≤_}
-use native.Mathlib.Omega.{arith}
-use lib.IntN.{ℤ}
-use lib.ListN.{length, take, drop, take-append-drop, length-drop}
-use lib.Seq.{drop-drop, length-take-le}
-use borrow.Author.Tests.{eqb-true}
+use Rattle.format.specs.Kit.{_≡_, refl, sym, ap, ap₂, _∙_, subst, Bool, true, List, [], _∷_, _++_, append-assoc, some, ℕ, zero, suc, _+_, _^_}
+use Rattle.format.specs.Kit.{_≤_, arith, ℤ, length, take, drop, take-append-drop, length-drop, drop-drop, length-take-le, eqb-true}
 use Rattle.format.specs.Limits.{maxId, maxCount}
 use Rattle.format.specs.Refusals.{done}
 use Rattle.format.specs.Bytes.{bytesOf}

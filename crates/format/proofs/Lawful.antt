@@ -1,12 +1,6 @@
 -- What a codec owes. The demands follow from these laws for every edition whose codec keeps them, and nothing else is asked of one.
 -- Assumes nothing.
-use mathlib.Core.Path.{_≡_}
-use mathlib.Core.Bool.{true}
-use mathlib.Core.List.{List, [], _∷_}
-use mathlib.Core.Option.{some}
-use Prim.Native.Nat.{ℕ, _^_, _<_, _≤_}
-use lib.IntN.{ℤ, pos}
-use lib.ListN.{length, getD}
+use Rattle.format.specs.Kit.{_≡_, true, List, [], _∷_, some, ℕ, _^_, _<_, _≤_, ℤ, pos, length, getD}
 use Rattle.format.specs.Limits.{maxCount}
 use Rattle.format.specs.Pairs.{Below, Each, Fits}
 use Rattle.format.specs.Codec.{Fields, Codec}

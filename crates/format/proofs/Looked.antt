@@ -1,14 +1,7 @@
 -- The steps in a column, by any rule that finds what is listed, and so the look-up, answer as the pair list does, with the words of
 -- its formula. Assumes nothing.
-use mathlib.Core.Path.{_≡_, refl, sym, ap, ap₂, _∙_, subst}
-use mathlib.Core.List.{List, [], _∷_, _++_, append-assoc}
-use Prim.Native.Nat.{ℕ, suc, _+_, _-_, _*_, _/_, _%_, _<_, _≤_, min}
-use native.Mathlib.Nat.{zero-add, div-add-mod'}
-use native.Mathlib.Omega.{arith}
-use lib.IntN.{ℤ}
-use lib.ListN.{length, getD, drop, length-append}
-use lib.Seq.{drop-at}
-use borrow.Author.Tests.{eq-eqb, ne-eqb, le-leb}
+use Rattle.format.specs.Kit.{_≡_, refl, sym, ap, ap₂, _∙_, subst, List, [], _∷_, _++_, append-assoc, ℕ, suc, _+_, _-_, _*_, _/_, _%_, _<_, _≤_}
+use Rattle.format.specs.Kit.{min, zero-add, div-add-mod', arith, ℤ, length, getD, drop, length-append, drop-at, eq-eqb, ne-eqb, le-leb}
 use Rattle.format.specs.Refusals.{Outcome, done, andThen, need}
 use Rattle.format.specs.Bytes.{bytesOf}
 use Rattle.format.specs.Ids.{Run, runs, idSection, jumps, jumpsFrom, notTwo, blocks, blockOf, blockBytes, endBlock, Entry, entryBytes, countBelow}

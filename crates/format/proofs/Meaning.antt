@@ -1,18 +1,9 @@
 -- That the definitions mean document 01's words where a reader could doubt it: smallest and greatest, the greatest common divisor, the
 -- least width, packed bits, the bitmap, rank entries, jump entries. Assumes nothing.
-use mathlib.Core.Path.{_≡_, refl, sym, ap, ap₂, _∙_, subst}
-use mathlib.Core.Bool.{cond, not}
-use mathlib.Core.List.{List, [], _∷_, append-nil}
-use Prim.Native.Nat.{ℕ, suc, _+_, _-_, _*_, _/_, _%_, _^_, _<_, _≤_, _∣_}
-use native.Mathlib.Nat.{dvd-zero, mod-lt, zero-lt-suc, zero-add, add-zero, mul-le-mul-right, suc-mul}
-use native.Mathlib.Omega.{arith}
-use lib.Dec.{T}
-use lib.IntN.{ℤ, pos, natAbs, _+ℤ_, +ℤ-invr, +ℤ-idr}
-use lib.Signed.{leZ}
-use lib.ListN.{length, getD, drop}
-use lib.Pow.{pow-add, pow-pos}
-use lib.Arith.{digits-div, digits-mod}
-use borrow.Author.Tests.{eq-eqb, ne-eqb, lt-ltb, le-ltb, eqb-true, eqb-false}
+use Rattle.format.specs.Kit.{_≡_, refl, sym, ap, ap₂, _∙_, subst, cond, not, List, [], _∷_, append-nil, ℕ, suc, _+_, _-_, _*_, _/_, _%_, _^_}
+use Rattle.format.specs.Kit.{_<_, _≤_, _∣_, dvd-zero, mod-lt, zero-lt-suc, zero-add, add-zero, mul-le-mul-right, suc-mul, arith, T, ℤ, pos}
+use Rattle.format.specs.Kit.{natAbs, _+ℤ_, +ℤ-invr, +ℤ-idr, leZ, length, getD, drop, pow-add, pow-pos, digits-div, digits-mod, eq-eqb, ne-eqb}
+use Rattle.format.specs.Kit.{lt-ltb, le-ltb, eqb-true, eqb-false}
 use Rattle.format.specs.Limits.{blockPlaces, maxPower, maxId}
 use Rattle.format.specs.Bytes.{low, lowAt, highAt, bytesOf}
 use Rattle.format.specs.Bits.{bitOf, bitAt, packed, fetched}

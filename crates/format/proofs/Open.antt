@@ -1,14 +1,6 @@
 -- A column's header, opened. Assumes nothing.
-use mathlib.Core.Path.{_≡_, sym, ap, _∙_, subst}
-use mathlib.Core.Bool.{true}
-use mathlib.Core.List.{List, [], _∷_, _++_, append-assoc}
-use mathlib.Core.Option.{some}
-use Prim.Native.Nat.{ℕ, _+_, _^_}
-use native.Mathlib.Nat.{zero-add}
-use native.Mathlib.Omega.{arith}
-use lib.ListN.{length, take, drop, length-append}
-use lib.Seq.{drop-append-seam, take-at, drop-at, drop-drop}
-use borrow.Author.Tests.{eq-eqb, eqb-true}
+use Rattle.format.specs.Kit.{_≡_, sym, ap, _∙_, subst, true, List, [], _∷_, _++_, append-assoc, some, ℕ, _+_, _^_, zero-add, arith, length}
+use Rattle.format.specs.Kit.{take, drop, length-append, drop-append-seam, take-at, drop-at, drop-drop, eq-eqb, eqb-true}
 use Rattle.format.specs.Refusals.{done, andThen, need, given}
 use Rattle.format.specs.Bytes.{bytesOf}
 use Rattle.format.specs.HeaderNumbers.{number, numberAt, numbersAt}

@@ -1,10 +1,6 @@
 -- Refusals 1 to 12 on both sides of their lines, as one computed table: the writer, the header, the lengths, the buffers.
 -- (13 to 15 stand in PinsSteps.antt.) `search` makes a table by computing each case; a refusal names those that fail. Assumes nothing.
-use mathlib.Core.Path.{_≡_}
-use mathlib.Core.List.{List, [], _∷_, _++_}
-use Prim.Native.Nat.{ℕ, _^_, _-_}
-use lib.ListN.{take, replicate}
-use lib.IntN.{ℤ, pos, negsuc}
+use Rattle.format.specs.Kit.{_≡_, List, [], _∷_, _++_, ℕ, _^_, _-_, take, replicate, ℤ, pos, negsuc}
 use Rattle.format.specs.Refusals.{done, refused, given, LENGTHS, POWER, ORDER, RANGE, ROOM, SHORT, NUMBER, EDITION, HEADER, LENGTH, BUFFER, DAMAGED}
 use Rattle.format.specs.Bytes.{bytesOf}
 use Rattle.format.specs.HeaderNumbers.{number, got, readNumber, bad}

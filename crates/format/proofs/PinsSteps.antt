@@ -1,11 +1,6 @@
 -- Refusals 13 to 15 on both sides of their lines, as computed tables: bytes that are no column, each step of the look-up failing alone,
 -- and the walk. Assumes nothing.
-use mathlib.Core.Path.{_≡_}
-use mathlib.Core.List.{List, [], _∷_, _++_}
-use mathlib.Core.Option.{some}
-use Prim.Native.Nat.{ℕ, _+_, _*_, _^_, _-_}
-use lib.ListN.{length, replicate}
-use lib.IntN.{ℤ, pos, negsuc}
+use Rattle.format.specs.Kit.{_≡_, List, [], _∷_, _++_, some, ℕ, _+_, _*_, _^_, _-_, length, replicate, ℤ, pos, negsuc}
 use Rattle.format.specs.Refusals.{Outcome, done, refused, andThen, SHORT, HEADER, LENGTH, DAMAGED, ID, BROKEN}
 use Rattle.format.specs.Bytes.{bytesOf, low, high}
 use Rattle.format.specs.HeaderNumbers.{number, zigzag}

@@ -1,16 +1,7 @@
 -- Document 02, [7]: refusal 5, OFFSET, is retired. It was "a block would start at 2147483647 or later"; no block of a list within the
 -- limits comes near that line, and no call gives 5 for any input. Assumes nothing.
-use mathlib.Core.Path.{_≡_, refl}
-use mathlib.Core.Bool.{Bool, true, false, cond, not}
-use mathlib.Core.List.{List, [], _∷_, _++_, append-assoc}
-use mathlib.Core.Option.{Option, none, some}
-use Prim.Native.Nat.{ℕ, zero, suc, _+_, _*_, _/_, _≤_, _<_, zero-le}
-use native.Mathlib.Omega.{arith}
-use lib.Dec.{eqb}
-use lib.IntN.{ℤ}
-use lib.ListN.{length, take, drop}
-use lib.Seq.{drop-at}
-use borrow.Author.Tests.{eqb-false}
+use Rattle.format.specs.Kit.{_≡_, refl, Bool, true, false, cond, not, List, [], _∷_, _++_, append-assoc, Option, none, some, ℕ, zero, suc, _+_}
+use Rattle.format.specs.Kit.{_*_, _/_, _≤_, _<_, zero-le, arith, eqb, ℤ, length, take, drop, drop-at, eqb-false}
 use Rattle.format.specs.Limits.{startLimit}
 use Rattle.format.specs.Refusals.{Outcome, done, refused, andThen, need, given, needNone, BROKEN}
 use Rattle.format.specs.Bytes.{bytesOf, lowAt}

@@ -1,16 +1,7 @@
 -- The column of a pair list, in every edition whose codec is lawful, is opened, read back to that list, and passes the check.
 -- Assumes nothing.
-use mathlib.Core.Path.{_≡_, refl, ap, _∙_}
-use mathlib.Core.Bool.{true, false}
-use mathlib.Core.List.{List, [], _∷_}
-use mathlib.Core.Option.{Option, none, some, bind}
-use Prim.Native.Nat.{ℕ, suc, _+_, _*_, _^_, _<_, _≤_, zero-le}
-use native.Mathlib.Nat.{le-refl}
-use native.Mathlib.Omega.{arith}
-use lib.Dec.{eqb, leb}
-use lib.IntN.{ℤ, pos}
-use lib.ListN.{length, getD}
-use borrow.Author.Tests.{eq-eqb, eqb-false, le-leb, lt-leb, lt-ltb}
+use Rattle.format.specs.Kit.{_≡_, refl, ap, _∙_, true, false, List, [], _∷_, Option, none, some, bind, ℕ, suc, _+_, _*_, _^_, _<_, _≤_, zero-le}
+use Rattle.format.specs.Kit.{le-refl, arith, eqb, leb, ℤ, pos, length, getD, eq-eqb, eqb-false, le-leb, lt-leb, lt-ltb}
 use Rattle.format.specs.Limits.{powerOk}
 use Rattle.format.specs.Refusals.{done, refused, andThen, need, given, needNone, ROOM}
 use Rattle.format.specs.Bytes.{bytesOf, same}

@@ -1,10 +1,5 @@
 -- The header's test taken apart: each rule as a plain fact. Assumes nothing.
-use mathlib.Core.Path.{_≡_, refl}
-use mathlib.Core.Bool.{Bool, true, false, _&&_, _||_}
-use Prim.Native.Nat.{ℕ}
-use native.Mathlib.Omega.{arith}
-use lib.Dec.{leb, eqb}
-use borrow.Author.Tests.{leb-true, le-leb, eqb-true, eq-eqb}
+use Rattle.format.specs.Kit.{_≡_, refl, Bool, true, false, _&&_, _||_, ℕ, arith, leb, eqb, leb-true, le-leb, eqb-true, eq-eqb}
 use Rattle.format.specs.Limits.{minPower, maxPower, powerOk, Power}
 use Rattle.format.specs.Column.{Head}
 use Rattle.format.specs.Opening.{headOk}

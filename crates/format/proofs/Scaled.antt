@@ -1,14 +1,6 @@
 -- A codec with one smallest value, one divisor and one width is lawful for every sound packing. Assumes nothing.
-use mathlib.Core.Path.{_≡_, refl, sym, ap, _∙_, subst}
-use mathlib.Core.Bool.{true}
-use mathlib.Core.List.{List, [], _∷_}
-use mathlib.Core.Option.{some}
-use Prim.Native.Nat.{ℕ, zero, suc, _/_, _^_, _<_, _≤_}
-use native.Mathlib.Nat.{div-le-self, lt-of-le-of-lt, mul-le-mul}
-use native.Mathlib.Omega.{arith}
-use lib.IntN.{ℤ, pos}
-use lib.ListN.{length, getD, List·getD-map}
-use borrow.Author.Tests.{eq-eqb, le-leb}
+use Rattle.format.specs.Kit.{_≡_, refl, sym, ap, _∙_, subst, true, List, [], _∷_, some, ℕ, zero, suc, _/_, _^_, _<_, _≤_, div-le-self}
+use Rattle.format.specs.Kit.{lt-of-le-of-lt, mul-le-mul, arith, ℤ, pos, length, getD, List·getD-map, eq-eqb, le-leb}
 use Rattle.format.specs.HeaderNumbers.{unzigzag}
 use Rattle.format.specs.Bits.{packedBytes}
 use Rattle.format.specs.Values.{fits64, smallest, over, spread, divisor, stored, valueAt}

@@ -1,9 +1,6 @@
 -- The set bits of a number: one after the other, in two parts, and as the places of a bitmap. Assumes nothing.
-use mathlib.Core.Path.{_≡_, refl, sym, ap, ap₂, _∙_}
-use mathlib.Core.List.{List, [], _∷_, _++_}
-use Prim.Native.Nat.{ℕ, zero, suc, _+_, _*_, _/_, _%_, _^_, _<_, _≤_}
-use native.Mathlib.Nat.{pow-succ', pow-zero, le-refl, div-one, div-div-eq-div-mul, add-zero, zero-add, suc-add, mul-assoc}
-use native.Mathlib.Omega.{arith}
+use Rattle.format.specs.Kit.{_≡_, refl, sym, ap, ap₂, _∙_, List, [], _∷_, _++_, ℕ, zero, suc, _+_, _*_, _/_, _%_, _^_, _<_, _≤_, pow-succ'}
+use Rattle.format.specs.Kit.{pow-zero, le-refl, div-one, div-div-eq-div-mul, add-zero, zero-add, suc-add, mul-assoc, arith}
 use Rattle.format.specs.Ids.{bitmap}
 use Rattle.format.specs.IdsRead.{setBits}
 use Rattle.format.specs.Pairs.{Below, Asc}

@@ -1,11 +1,7 @@
 -- A block stands at a place of an id section: what is read there, and what stands after it. Blocks that stand at a place, up to the
 -- end block, are what every loop over blocks keeps. Assumes nothing.
-use mathlib.Core.Path.{_≡_, sym, ap, _∙_}
-use mathlib.Core.List.{List, [], _∷_, _++_, append-assoc}
-use Prim.Native.Nat.{ℕ, suc, _+_, _-_, _*_, _<_, _≤_}
-use native.Mathlib.Omega.{arith}
-use lib.ListN.{length, take, drop, length-append, length-drop}
-use lib.Seq.{drop-at, drop-drop}
+use Rattle.format.specs.Kit.{_≡_, sym, ap, _∙_, List, [], _∷_, _++_, append-assoc, ℕ, suc, _+_, _-_, _*_, _<_, _≤_, arith, length, take, drop}
+use Rattle.format.specs.Kit.{length-append, length-drop, drop-at, drop-drop}
 use Rattle.format.specs.Limits.{blockPlaces, endNumber}
 use Rattle.format.specs.Bytes.{fromLow, fromDigits, bytesOf, lowAt}
 use Rattle.format.specs.Ids.{Run, blockBytes, blockOf, blockData, endBlock}

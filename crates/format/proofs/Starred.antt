@@ -1,9 +1,5 @@
 -- The starred cases of document 01, "Both sides of each line", as one statement about the definitions. Assumes nothing.
-use mathlib.Core.Path.{_≡_, refl}
-use mathlib.Core.List.{[], _∷_, _++_}
-use Prim.Native.Nat.{ℕ, _^_, _-_}
-use lib.ListN.{length, take, replicate}
-use lib.IntN.{pos, negsuc}
+use Rattle.format.specs.Kit.{_≡_, refl, [], _∷_, _++_, ℕ, _^_, _-_, length, take, replicate, pos, negsuc}
 use Rattle.format.specs.Refusals.{done, refused, SHORT, NUMBER, ORDER, RANGE}
 use Rattle.format.specs.HeaderNumbers.{number, zigzag}
 use Rattle.format.specs.Bits.{packed}

@@ -1,11 +1,6 @@
 -- Runs of stores: in two parts, two that do not meet, from the front; and a loop that fills a buffer (`Fill`). Assumes nothing.
-use mathlib.Core.Path.{_≡_, refl, sym, ap, _∙_}
-use mathlib.Core.List.{List, [], _∷_, _++_}
-use Prim.Native.Nat.{ℕ, suc, _+_, _≤_, _<_}
-use native.Mathlib.Nat.{zero-add}
-use native.Mathlib.Omega.{arith}
-use lib.ListN.{length, set, drop, length-append}
-use lib.Seq.{sets, sets-eq, set-comm, length-sets}
+use Rattle.format.specs.Kit.{_≡_, refl, sym, ap, _∙_, List, [], _∷_, _++_, ℕ, suc, _+_, _≤_, _<_, zero-add, arith, length, set, drop}
+use Rattle.format.specs.Kit.{length-append, sets, sets-eq, set-comm, length-sets}
 use Rattle.format.specs.Stores.{Fill}
 
 -- ---- a run in two parts

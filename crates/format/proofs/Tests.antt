@@ -1,9 +1,5 @@
 -- Chains of tests: what a chain that was passed says of each of its tests, and what its tests say of a chain. Assumes nothing.
-use mathlib.Core.Path.{_≡_, refl}
-use mathlib.Core.Bool.{Bool, true, false, _&&_, _||_}
-use mathlib.Core.Option.{Option, none, some}
-use Prim.Native.Nat.{ℕ}
-use native.Mathlib.Omega.{arith}
+use Rattle.format.specs.Kit.{_≡_, refl, Bool, true, false, _&&_, _||_, Option, none, some, ℕ, arith}
 use Rattle.format.specs.Refusals.{Outcome, done, refused, andThen, need, given, needNone}
 
 -- ---- steps that may refuse

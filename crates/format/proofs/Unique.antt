@@ -1,14 +1,7 @@
 -- What the check accepts is the column of the list that the reading gives, and of no other. Assumes nothing.
-use mathlib.Core.Path.{_≡_, refl, sym, ap, ap₂, _∙_, subst}
-use mathlib.Core.Bool.{Bool, true, false}
-use mathlib.Core.List.{List, [], _∷_}
-use mathlib.Core.Option.{Option, none, some, bind-eq-some-iff, map-eq-some-iff, Option·some-injective}
-use Prim.Native.Nat.{ℕ, zero, suc, zero-le}
-use native.Mathlib.Omega.{arith}
-use lib.Dec.{eqb, leb, ltb}
-use lib.IntN.{ℤ}
-use lib.ListN.{length}
-use borrow.Author.Tests.{leb-true, eqb-true, ltb-true}
+use Rattle.format.specs.Kit.{_≡_, refl, sym, ap, ap₂, _∙_, subst, Bool, true, false, List, [], _∷_, Option, none, some, bind-eq-some-iff}
+use Rattle.format.specs.Kit.{map-eq-some-iff, Option·some-injective, ℕ, zero, suc, zero-le, arith, eqb, leb, ltb, ℤ, length, leb-true, eqb-true}
+use Rattle.format.specs.Kit.{ltb-true}
 use Rattle.format.specs.Limits.{maxId}
 use Rattle.format.specs.Refusals.{Outcome, done, refused, andThen, need, given, DAMAGED}
 use Rattle.format.specs.Bytes.{same}

@@ -1,16 +1,9 @@
 -- The stored numbers stand for the values. Assumes nothing.
-use mathlib.Core.Path.{_≡_, refl, sym, ap, ap₂, _∙_, subst}
-use mathlib.Core.Bool.{cond, not}
-use mathlib.Core.List.{List, [], _∷_, map}
-use Prim.Native.Nat.{ℕ, zero, suc, _+_, _-_, _/_, _^_, _<_, _≤_, _∣_, zero-le, suc-le-suc}
-use native.Mathlib.Nat.{dvd-zero, dvd-add, dvd-sub, one-dvd, mul-div-cancel', le-trans, pow-zero, pow-succ', add-comm, lt-of-le-of-lt, le-div-iff-mul-le}
-use native.Mathlib.Nat.{div-mul-le-self}
-use native.Mathlib.Omega.{arith}
-use lib.Dec.{T, eqb, leb→le, le→leb, nleb→lt, lit<}
-use lib.IntN.{ℤ, pos, negsuc, negℤ, natAbs, subℕ, _+ℤ_, _-ℤ_, +ℤ-comm, -ℤ-+ℤ-cancel, +ℤ-assoc, +ℤ-invl, +ℤ-idl}
-use lib.ListN.{length, getD, length-map}
-use lib.Signed.{leZ, nonNeg, pos-natAbs}
-use borrow.Author.Tests.{lt-ltb, le-ltb}
+use Rattle.format.specs.Kit.{_≡_, refl, sym, ap, ap₂, _∙_, subst, cond, not, List, [], _∷_, map, ℕ, zero, suc, _+_, _-_, _/_, _^_, _<_, _≤_}
+use Rattle.format.specs.Kit.{_∣_, zero-le, suc-le-suc, dvd-zero, dvd-add, dvd-sub, one-dvd, mul-div-cancel', le-trans, pow-zero, pow-succ'}
+use Rattle.format.specs.Kit.{add-comm, lt-of-le-of-lt, le-div-iff-mul-le, div-mul-le-self, arith, T, eqb, leb→le, le→leb, nleb→lt, lit<, ℤ, pos}
+use Rattle.format.specs.Kit.{negsuc, negℤ, natAbs, subℕ, _+ℤ_, _-ℤ_, +ℤ-comm, -ℤ-+ℤ-cancel, +ℤ-assoc, +ℤ-invl, +ℤ-idl, length, getD, length-map}
+use Rattle.format.specs.Kit.{leZ, nonNeg, pos-natAbs, lt-ltb, le-ltb}
 use Rattle.format.specs.Values.{leastOf, mostOf, smallest, greatest, over, gcdOf, divisor, stored, valueAt, spread, bitsIn, bitLength, width}
 use Rattle.format.specs.Pairs.{Below, Each}
 use Rattle.format.proofs.Cases.{below-or, true-or}

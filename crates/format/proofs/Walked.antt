@@ -1,16 +1,7 @@
 -- The walk over a column's blocks answers as the pair list does. Assumes nothing.
-use mathlib.Core.Path.{_≡_, refl, sym, ap, _∙_}
-use mathlib.Core.Bool.{cond}
-use mathlib.Core.List.{List, [], _∷_, _++_, append-assoc}
-use mathlib.Core.Option.{none, some}
-use Prim.Native.Nat.{ℕ, zero, suc, _+_, _/_, _%_, _<_, _≤_}
-use native.Mathlib.Nat.{zero-add, add-zero, add-assoc}
-use native.Mathlib.Omega.{arith}
-use lib.Dec.{eqb}
-use lib.IntN.{ℤ}
-use lib.ListN.{length, drop}
-use lib.Seq.{drop-at, drop-drop}
-use borrow.Author.Tests.{eq-eqb, ne-eqb, lt-ltb, le-ltb}
+use Rattle.format.specs.Kit.{_≡_, refl, sym, ap, _∙_, cond, List, [], _∷_, _++_, append-assoc, none, some, ℕ, zero, suc, _+_, _/_, _%_, _<_}
+use Rattle.format.specs.Kit.{_≤_, zero-add, add-zero, add-assoc, arith, eqb, ℤ, length, drop, drop-at, drop-drop, eq-eqb, ne-eqb, lt-ltb}
+use Rattle.format.specs.Kit.{le-ltb}
 use Rattle.format.specs.Bytes.{bytesOf}
 use Rattle.format.specs.Ids.{Run, runs, idSection, jumps, blocks, blockOf, blockBytes, endBlock, entryBytes, countBelow}
 use Rattle.format.specs.Editions.{Edition, codec}

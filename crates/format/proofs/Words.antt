@@ -1,17 +1,8 @@
 -- A look-up counts no more words than a stride has, or a block without ranks: by the formula, and on any bytes. And a listed id stands
 -- at its ordinal. Assumes nothing.
-use mathlib.Core.Path.{_≡_, refl, subst}
-use mathlib.Core.Bool.{Bool, true, false, cond, not, _&&_}
-use mathlib.Core.Option.{Option, none, some}
-use mathlib.Core.List.{List, [], _∷_}
-use Prim.Native.Nat.{ℕ, zero, suc, _+_, _-_, _*_, _/_, _%_, _^_, _<_, _≤_, zero-le}
-use native.Mathlib.Nat.{mod-lt}
-use native.Mathlib.Omega.{arith}
-use lib.Dec.{eqb, leb, ltb}
-use lib.Pow.{pow-pos}
-use lib.Count.{onesIn}
-use lib.ListN.{length, getD, drop}
-use borrow.Author.Tests.{eq-eqb, ne-eqb, lt-ltb, le-ltb}
+use Rattle.format.specs.Kit.{_≡_, refl, subst, Bool, true, false, cond, not, _&&_, Option, none, some, List, [], _∷_, ℕ, zero, suc, _+_, _-_}
+use Rattle.format.specs.Kit.{_*_, _/_, _%_, _^_, _<_, _≤_, zero-le, mod-lt, arith, eqb, leb, ltb, pow-pos, onesIn, length, getD, drop, eq-eqb}
+use Rattle.format.specs.Kit.{ne-eqb, lt-ltb, le-ltb}
 use Rattle.format.specs.Limits.{Power, blockPlaces}
 use Rattle.format.specs.Refusals.{Outcome, done, refused, andThen, need, BROKEN}
 use Rattle.format.specs.Bytes.{lowAt}

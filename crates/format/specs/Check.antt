@@ -1,12 +1,6 @@
 -- The check (7 to 11, then 13) and the full reading (7 to 11, 12, 13): decode the pair list, ask the writer's definition, compare
 -- the bytes. Document 01, "Refusal numbers": DAMAGED exactly when the bytes are no column of any pair list. Assumes nothing.
-use Prim.Native.Nat.{ℕ, zero, suc}
-use mathlib.Core.Bool.{Bool, false, _&&_}
-use mathlib.Core.List.{List, [], _∷_, _++_}
-use mathlib.Core.Option.{Option, some, bind, Option·map}
-use lib.ListN.{length, drop}
-use lib.Dec.{leb}
-use lib.IntN.{ℤ}
+use Rattle.format.specs.Kit.{ℕ, zero, suc, Bool, false, _&&_, List, [], _∷_, _++_, Option, some, bind, Option·map, length, drop, leb, ℤ}
 use Rattle.format.specs.Refusals.{Outcome, done, refused, andThen, need, given, BUFFER, DAMAGED}
 use Rattle.format.specs.Bytes.{same}
 use Rattle.format.specs.IdsRead.{readRuns, idsOf}

@@ -1,11 +1,6 @@
 -- What an edition says of values, and all that it says: the header's w, smallest value and g, the value section, the header rules on
 -- them, and step 7's value. Everything else of a column is the same in each edition. Assumes nothing.
-use Prim.Native.Nat.{ℕ, _/_}
-use mathlib.Core.Bool.{Bool, cond, _&&_}
-use mathlib.Core.List.{List}
-use mathlib.Core.Option.{Option, none, some}
-use lib.Dec.{leb, eqb}
-use lib.IntN.{ℤ}
+use Rattle.format.specs.Kit.{ℕ, _/_, Bool, cond, _&&_, List, Option, none, some, leb, eqb, ℤ}
 use Rattle.format.specs.HeaderNumbers.{zigzag, unzigzag}
 use Rattle.format.specs.Bits.{packedBytes}
 use Rattle.format.specs.Values.{fits64, smallest, spread, divisor, stored, valueAt}

@@ -1,8 +1,5 @@
 -- Document 01, "What a column is" and "Header": the header's numbers and the whole column, of any edition. Assumes nothing.
-use Prim.Native.Nat.{ℕ}
-use mathlib.Core.List.{List, [], _∷_, _++_}
-use lib.ListN.{length}
-use lib.IntN.{ℤ}
+use Rattle.format.specs.Kit.{ℕ, List, [], _∷_, _++_, length, ℤ}
 use Rattle.format.specs.Bytes.{bytesOf}
 use Rattle.format.specs.HeaderNumbers.{number}
 use Rattle.format.specs.Ids.{idSection, jumps}

@@ -1,10 +1,5 @@
 -- The editions: the number of each, which is the first header number, and its codec. Assumes nothing.
-use Prim.Native.Nat.{ℕ}
-use mathlib.Core.Path.{_≡_}
-use mathlib.Core.Bool.{cond}
-use mathlib.Core.List.{List, [], _∷_}
-use mathlib.Core.Option.{Option, none, some}
-use lib.Dec.{leb, eqb}
+use Rattle.format.specs.Kit.{ℕ, _≡_, cond, List, [], _∷_, Option, none, some, leb, eqb}
 use Rattle.format.specs.Limits.{maxWidth}
 use Rattle.format.specs.Bits.{packed, fetched}
 use Rattle.format.specs.Values.{bitLength}

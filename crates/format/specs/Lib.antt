@@ -1,4 +1,5 @@
 -- Every definition of document 01, a file for each of its parts.
+pub mod Kit
 pub mod Limits
 pub mod Refusals
 pub mod Bytes

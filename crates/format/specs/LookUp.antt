@@ -1,13 +1,7 @@
 -- Document 01, "The look-up, step by step": the steps fix the answer for any bytes, and the first step that fails decides it.
 -- Assumes nothing.
-use Prim.Native.Nat.{ℕ, zero, suc, _+_, _-_, _*_, _/_, _%_, _^_, min}
-use mathlib.Core.Bool.{cond, not, _&&_, _||_}
-use mathlib.Core.List.{List, [], _∷_}
-use mathlib.Core.Option.{Option, none, some}
-use lib.ListN.{drop}
-use lib.Dec.{leb, ltb, eqb}
-use lib.Count.{onesIn}
-use lib.IntN.{ℤ}
+use Rattle.format.specs.Kit.{ℕ, zero, suc, _+_, _-_, _*_, _/_, _%_, _^_, min, cond, not, _&&_, _||_, List, [], _∷_, Option, none, some, drop}
+use Rattle.format.specs.Kit.{leb, ltb, eqb, onesIn, ℤ}
 use Rattle.format.specs.Limits.{maxId, blockPlaces}
 use Rattle.format.specs.Refusals.{Outcome, done, refused, andThen, need, given, HEADER, LENGTH, ID, BROKEN}
 use Rattle.format.specs.Bytes.{lowAt, highAt}

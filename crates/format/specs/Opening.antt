@@ -1,12 +1,6 @@
 -- Opening a column: refusals 7 to 11 in order (document 01, "Header", "Refusal numbers"), and where its parts stand.
 -- Assumes nothing.
-use Prim.Native.Nat.{ℕ, _+_, _*_}
-use mathlib.Core.Bool.{Bool, _&&_}
-use mathlib.Core.List.{List}
-use mathlib.Core.Option.{Option}
-use lib.ListN.{length, getD, take, drop}
-use lib.Dec.{leb, eqb}
-use lib.IntN.{ℤ}
+use Rattle.format.specs.Kit.{ℕ, _+_, _*_, Bool, _&&_, List, Option, length, getD, take, drop, leb, eqb, ℤ}
 use Rattle.format.specs.Limits.{powerOk, maxCount, maxJumps}
 use Rattle.format.specs.Refusals.{Outcome, done, andThen, need, given, EDITION, HEADER, LENGTH}
 use Rattle.format.specs.HeaderNumbers.{numberAt, numbersAt}

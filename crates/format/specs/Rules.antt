@@ -1,9 +1,5 @@
 -- The header rules as plain facts, and what an opened column keeps: for the contracts of what works on one. Assumes nothing.
-use mathlib.Core.Path.{_≡_}
-use mathlib.Core.Bool.{true}
-use mathlib.Core.List.{List}
-use Prim.Native.Nat.{ℕ, _+_, _*_, _≤_}
-use lib.ListN.{length}
+use Rattle.format.specs.Kit.{_≡_, true, List, ℕ, _+_, _*_, _≤_, length}
 use Rattle.format.specs.Limits.{maxCount, maxJumps, Power}
 use Rattle.format.specs.Editions.{codec}
 use Rattle.format.specs.Column.{Head}

@@ -1,7 +1,5 @@
 -- Blocks that the section can hold, and what they add up to. Assumes nothing.
-use Prim.Native.Nat.{ℕ, zero, suc, _+_, _-_, _^_, _≤_, _<_}
-use mathlib.Core.List.{List, [], _∷_}
-use lib.ListN.{length}
+use Rattle.format.specs.Kit.{ℕ, zero, suc, _+_, _-_, _^_, _≤_, _<_, List, [], _∷_, length}
 use Rattle.format.specs.Limits.{blockPlaces, maxBlock}
 use Rattle.format.specs.Ids.{Run, blockBytes}
 use Rattle.format.specs.Pairs.{Asc, Below}

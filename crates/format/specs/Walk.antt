@@ -1,11 +1,6 @@
 -- Document 01, "The walk over all blocks, and the words": what demand 3 holds the look-up against. Assumes nothing.
-use Prim.Native.Nat.{ℕ, zero, suc, _+_, _-_, _/_, _%_, _^_, _≤_}
-use mathlib.Core.Bool.{Bool, false, cond, _||_}
-use mathlib.Core.List.{List, [], _∷_}
-use mathlib.Core.Option.{Option, none, some}
-use lib.ListN.{getD, drop}
-use lib.Dec.{eqb}
-use lib.IntN.{ℤ, pos}
+use Rattle.format.specs.Kit.{ℕ, zero, suc, _+_, _-_, _/_, _%_, _^_, _≤_, Bool, false, cond, _||_, List, [], _∷_, Option, none, some, getD, drop}
+use Rattle.format.specs.Kit.{eqb, ℤ, pos}
 use Rattle.format.specs.Limits.{blockPlaces, bitmapLongs, endNumber}
 use Rattle.format.specs.Refusals.{Outcome, done, refused}
 use Rattle.format.specs.Bytes.{lowAt}

@@ -1,12 +1,6 @@
 -- The writer: refusals 1 to 4 and 6 in order, each over the whole input before the next (document 01, "Refusal numbers"; document 02, [7],
 -- took 5 out). Assumes nothing.
-use Prim.Native.Nat.{ℕ, suc}
-use mathlib.Core.Bool.{cond}
-use mathlib.Core.List.{List, [], _∷_, _++_}
-use mathlib.Core.Option.{Option, none, some}
-use lib.ListN.{length, drop}
-use lib.Dec.{leb, ltb, eqb}
-use lib.IntN.{ℤ}
+use Rattle.format.specs.Kit.{ℕ, suc, cond, List, [], _∷_, _++_, Option, none, some, length, drop, leb, ltb, eqb, ℤ}
 use Rattle.format.specs.Limits.{maxId, powerOk}
 use Rattle.format.specs.Refusals.{Outcome, done, refused, need, needNone, LENGTHS, POWER, ORDER, RANGE, ROOM}
 use Rattle.format.specs.Editions.{Edition, plain}

@@ -1,9 +1,5 @@
 -- A header number read at once. Assumes nothing.
-use mathlib.Core.Path.{_≡_, ap₂, _∙_}
-use mathlib.Core.List.{List}
-use Prim.Native.Nat.{ℕ, _+_, _*_, _/_, _%_, _≤_}
-use native.Mathlib.Omega.{arith}
-use lib.ListN.{drop}
+use Rattle.format.specs.Kit.{_≡_, ap₂, _∙_, List, ℕ, _+_, _*_, _/_, _%_, _≤_, arith, drop}
 use Rattle.format.specs.HeaderNumbers.{readNumber}
 use Rattle.header_numbers.specs.Read.{numberOf}
 use Rattle.header_numbers.specs.Quick.{Quick}

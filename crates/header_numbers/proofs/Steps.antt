@@ -1,13 +1,7 @@
 -- Reading a header number byte by byte: what the bytes from here on make of the sum so far. Assumes nothing.
-use mathlib.Core.Path.{_≡_, refl, sym, ap, _∙_}
-use mathlib.Core.List.{List, _∷_}
-use Prim.Native.Nat.{ℕ, zero, suc, _+_, _-_, _*_, _^_, _≤_, _<_}
-use native.Mathlib.Nat.{pow-zero, pow-suc, mul-add, mul-assoc, mul-comm, mul-one, le-mul-of-pos-right, one-le-pow, zero-lt-suc, le-of-eq, le-trans, add-zero}
-use native.Mathlib.Numerals.{add-one}
-use native.Mathlib.Omega.{arith}
-use borrow.Author.Tests.{lt-ltb, le-ltb, eq-eqb, ne-eqb}
-use lib.ListN.{length, getD, drop, drop-of-length-le}
-use lib.Seq.{drop-cons}
+use Rattle.format.specs.Kit.{_≡_, refl, sym, ap, _∙_, List, _∷_, ℕ, zero, suc, _+_, _-_, _*_, _^_, _≤_, _<_, pow-zero, pow-suc, mul-add, mul-assoc}
+use Rattle.format.specs.Kit.{mul-comm, mul-one, le-mul-of-pos-right, one-le-pow, zero-lt-suc, le-of-eq, le-trans, add-zero, add-one, arith, lt-ltb}
+use Rattle.format.specs.Kit.{le-ltb, eq-eqb, ne-eqb, length, getD, drop, drop-of-length-le, drop-cons}
 use Rattle.format.specs.HeaderNumbers.{Got, got, short, bad, above, readGroups, readNumber}
 use Rattle.header_numbers.specs.Read.{numberOf, numberOn}
 use Rattle.header_numbers.specs.declared.Number.the-variants.{Is, Short, Bad}

@@ -1,10 +1,5 @@
 -- A header number below 2^64 byte by byte, and how long it is. Assumes nothing.
-use mathlib.Core.Path.{_≡_, sym, ap, _∙_}
-use mathlib.Core.List.{List, [], _∷_}
-use Prim.Native.Nat.{ℕ, zero, suc, _+_, _/_, _%_, _^_, _≤_, _<_}
-use native.Mathlib.Nat.{pow-suc, pow-zero}
-use native.Mathlib.Omega.{arith}
-use lib.ListN.{length}
+use Rattle.format.specs.Kit.{_≡_, sym, ap, _∙_, List, [], _∷_, ℕ, zero, suc, _+_, _/_, _%_, _^_, _≤_, _<_, pow-suc, pow-zero, arith, length}
 use Rattle.format.specs.HeaderNumbers.{groups, number}
 use Rattle.format.proofs.Header.{groups-last, groups-more}
 use Rattle.format.proofs.Cases.{below-or}

@@ -1,8 +1,5 @@
 -- A header number read at once, as one number. Assumes nothing.
-use mathlib.Core.Path.{_≡_}
-use mathlib.Core.List.{List}
-use Prim.Native.Nat.{ℕ, _+_, _/_, _%_, _≤_}
-use lib.ListN.{drop}
+use Rattle.format.specs.Kit.{_≡_, List, ℕ, _+_, _/_, _%_, _≤_, drop}
 use Rattle.format.specs.HeaderNumbers.{readNumber}
 use Rattle.header_numbers.specs.Read.{numberOf}
 use Rattle.header_numbers.specs.declared.Number.the-variants.{Is}

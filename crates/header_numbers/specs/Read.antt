@@ -1,5 +1,5 @@
 -- What reading a header number at a place finds, with places counted from the bytes' front. Assumes nothing.
-use Prim.Native.Nat.{ℕ, _+_, _*_}
+use Rattle.format.specs.Kit.{ℕ, _+_, _*_}
 use Rattle.format.specs.HeaderNumbers.{Got, got, short, bad}
 use Rattle.header_numbers.specs.declared.Number.{Number}
 use Rattle.header_numbers.specs.declared.Number.the-variants.{Is, Short, Bad}

@@ -1,13 +1,6 @@
 -- The turns of a loop that scans a sparse block's entries. Assumes nothing.
-use mathlib.Core.Path.{_≡_, ap, ap₂, _∙_}
-use mathlib.Core.List.{List}
-use mathlib.Core.Option.{Option, none, some}
-use Prim.Native.Nat.{ℕ, zero, suc, _+_, _-_, _*_, _<_, _≤_}
-use native.Mathlib.Nat.{add-zero}
-use native.Mathlib.Omega.{arith}
-use lib.ListN.{drop}
-use native.Mathlib.Numerals.{add-one}
-use borrow.Author.Tests.{eq-eqb, ne-eqb, lt-ltb, le-ltb}
+use Rattle.format.specs.Kit.{_≡_, ap, ap₂, _∙_, List, Option, none, some, ℕ, zero, suc, _+_, _-_, _*_, _<_, _≤_, add-zero, arith, drop, add-one}
+use Rattle.format.specs.Kit.{eq-eqb, ne-eqb, lt-ltb, le-ltb}
 use Rattle.format.specs.Bytes.{lowAt}
 use Rattle.format.specs.IdsRead.{shorts}
 use Rattle.format.specs.LookUp.{scan}

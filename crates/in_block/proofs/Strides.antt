@@ -1,11 +1,5 @@
 -- The stride of a place, for every rank power: its first long, its rank's entry, and the words in it. Assumes nothing.
-use mathlib.Core.Path.{_≡_, ap, _∙_}
-use mathlib.Core.List.{List}
-use Prim.Native.Nat.{ℕ, _+_, _-_, _*_, _/_, _%_, _^_, _<_, _≤_}
-use native.Mathlib.Nat.{div-add-mod'}
-use native.Mathlib.Omega.{arith}
-use lib.Pow.{shr-shr, shr-lt}
-use borrow.Author.Tests.{eq-eqb, ne-eqb}
+use Rattle.format.specs.Kit.{_≡_, ap, _∙_, List, ℕ, _+_, _-_, _*_, _/_, _%_, _^_, _<_, _≤_, div-add-mod', arith, shr-shr, shr-lt, eq-eqb, ne-eqb}
 use Rattle.format.specs.Limits.{Power}
 use Rattle.format.specs.Bytes.{highAt}
 use Rattle.format.specs.Ids.{rankBytes}

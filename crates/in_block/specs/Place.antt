@@ -1,5 +1,5 @@
 -- What the code's answers on a place of a block stand for, and what a caller may count on. Assumes nothing.
-use Prim.Native.Nat.{ℕ, _<_}
+use Rattle.format.specs.Kit.{ℕ, _<_}
 use Rattle.format.specs.LookUp.{Place, inside, nowhere, broken}
 use Rattle.in_block.specs.declared.Inner as In
 

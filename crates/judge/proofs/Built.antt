@@ -1,14 +1,7 @@
 -- The blocks: those that the judge passes are the blocks of fine ascending runs, and it passes all such. From the tests, by induction on the
 -- judge's own steps: each test that passed gives one field of the run. To the tests, by induction on the runs that stand there. Assumes nothing.
-use mathlib.Core.Path.{_≡_, refl, sym, ap, ap₂, _∙_}
-use mathlib.Core.Bool.{true}
-use mathlib.Core.List.{List, [], _∷_, _++_, append-assoc}
-use Prim.Native.Nat.{ℕ, zero, suc, _+_, _-_, _<_, _≤_}
-use native.Mathlib.Nat.{add-assoc}
-use native.Mathlib.Omega.{arith}
-use lib.ListN.{length, take, drop, length-drop, take-append-drop}
-use lib.Seq.{drop-drop}
-use borrow.Author.Tests.{eq-eqb, ne-eqb, leb-true, le-leb}
+use Rattle.format.specs.Kit.{_≡_, refl, sym, ap, ap₂, _∙_, true, List, [], _∷_, _++_, append-assoc, ℕ, zero, suc, _+_, _-_, _<_, _≤_, add-assoc}
+use Rattle.format.specs.Kit.{arith, length, take, drop, length-drop, take-append-drop, drop-drop, eq-eqb, ne-eqb, leb-true, le-leb}
 use Rattle.format.proofs.Cases.{equal-or}
 use Rattle.format.specs.Refusals.{done, need}
 use Rattle.format.specs.Bytes.{low, fromLow, bytesOf, same, lowAt}

@@ -1,11 +1,6 @@
 -- Numbers in the bits of a string: one byte, a window of eight, and the place of the next number. Assumes nothing.
-use mathlib.Core.Path.{_≡_, sym, ap, _∙_}
-use mathlib.Core.List.{List}
-use Prim.Native.Nat.{ℕ, _+_, _-_, _*_, _/_, _%_, _^_, _≤_, _<_}
-use native.Mathlib.Nat.{mul-le-mul-right, add-mul, one-mul}
-use native.Mathlib.Omega.{arith}
-use lib.ListN.{getD}
-use lib.Pow.{shr-shr, shl-shr, field, mod-mod-pow}
+use Rattle.format.specs.Kit.{_≡_, sym, ap, _∙_, List, ℕ, _+_, _-_, _*_, _/_, _%_, _^_, _≤_, _<_, mul-le-mul-right, add-mul, one-mul, arith, getD}
+use Rattle.format.specs.Kit.{shr-shr, shl-shr, field, mod-mod-pow}
 use Rattle.format.specs.Bits.{bitOf, bitAt, gather}
 use Rattle.format.proofs.Bits.{gather-whole, gather-part, bitAt-lt}
 

@@ -1,16 +1,8 @@
 -- The tests of edition 1 accept a value section that keeps the header rules exactly if it is the section of its values, and the fields
 -- are theirs. Assumes nothing.
-use mathlib.Core.Path.{_≡_, refl, sym, ap, ap₂, _∙_, subst}
-use mathlib.Core.Bool.{Bool, true, _&&_}
-use mathlib.Core.List.{List, [], _∷_, map}
-use Prim.Native.Nat.{ℕ, _-_, _*_, _/_, _%_, _^_, _<_, _≤_, _∣_, min, max}
-use native.Mathlib.Nat.{mul-one, mul-zero, eq-of-mul-eq-mul-left, mod-eq-zero-of-dvd, dvd-of-mod-eq-zero}
-use native.Mathlib.Omega.{arith}
-use lib.Dec.{eqb, leb}
-use lib.Pow.{pow-mono, pow-pos}
-use lib.IntN.{ℤ, natAbs}
-use lib.ListN.{length, getD, length-map, List·getD-eq-default}
-use borrow.Author.Tests.{eqb-true, eq-eqb, ne-eqb, leb-true, le-leb, lt-leb}
+use Rattle.format.specs.Kit.{_≡_, refl, sym, ap, ap₂, _∙_, subst, Bool, true, _&&_, List, [], _∷_, map, ℕ, _-_, _*_, _/_, _%_, _^_, _<_, _≤_, _∣_}
+use Rattle.format.specs.Kit.{min, max, mul-one, mul-zero, eq-of-mul-eq-mul-left, mod-eq-zero-of-dvd, dvd-of-mod-eq-zero, arith, eqb, leb, pow-mono}
+use Rattle.format.specs.Kit.{pow-pos, ℤ, natAbs, length, getD, length-map, List·getD-eq-default, eqb-true, eq-eqb, ne-eqb, leb-true, le-leb, lt-leb}
 use Rattle.format.specs.HeaderNumbers.{zigzag, unzigzag}
 use Rattle.format.specs.Bits.{bitAt, tabulate, bitBytes, packed, unpacked}
 use Rattle.format.specs.Values.{smallest, greatest, gcdOf, divisor, bitLength, bitsIn, width, stored, spread}
@@ -186,7 +178,8 @@ module _ (n : ℕ) (h : Fields) (s : List ℕ) (facts : Rules n h (length s)) (s
 
   equal-complete : (l : List ℕ) → unpacked w n s ≡ l → w ≡ 0 → PlainOf n h s (vs l) → equalOk n h ≡ true
   unfolding equalOk smallest greatest divisor spread
-  equal-complete [] e z v = true-both _ _ (eq-eqb _ _ (sym (v .divisor-is))) (or-right (leb 1 n) (eqb (h .smallest) 0) (eq-eqb (h .smallest) 0 (sym (v .smallest-is))))
+  equal-complete [] e z v =
+      true-both _ _ (eq-eqb _ _ (sym (v .divisor-is))) (or-right (leb 1 n) (eqb (h .smallest) 0) (eq-eqb (h .smallest) 0 (sym (v .smallest-is))))
   equal-complete (x ∷ xs) e z v =
       let a : n ≡ length (x ∷ xs) = sym (length-unpacked w n s) ∙ ap length e in
       true-both _ _ (eq-eqb _ _ (equal-step x xs e z v)) (or-left (leb 1 n) (eqb (h .smallest) 0) (le-leb 1 n (omega arith)))

@@ -1,12 +1,6 @@
 -- What a list of stored numbers says of the values m + g x: smallest, spread, divisor, width. Assumes nothing.
-use mathlib.Core.Path.{_≡_, refl, sym, ap, ap₂, _∙_, subst}
-use mathlib.Core.List.{List, [], _∷_, map}
-use Prim.Native.Nat.{ℕ, _-_, _*_, _/_, _^_, _<_, _≤_, _∣_, min, max}
-use native.Mathlib.Nat.{mul-zero, mul-div-cancel-left, eq-of-mul-eq-mul-left}
-use native.Mathlib.Omega.{arith}
-use lib.Pow.{pow-mono}
-use lib.IntN.{ℤ, natAbs}
-use borrow.Author.Tests.{eq-eqb, ne-eqb}
+use Rattle.format.specs.Kit.{_≡_, refl, sym, ap, ap₂, _∙_, subst, List, [], _∷_, map, ℕ, _-_, _*_, _/_, _^_, _<_, _≤_, _∣_, min, max, mul-zero}
+use Rattle.format.specs.Kit.{mul-div-cancel-left, eq-of-mul-eq-mul-left, arith, pow-mono, ℤ, natAbs, eq-eqb, ne-eqb}
 use Rattle.format.specs.Values.{smallest, greatest, over, spread, gcdOf, divisor, bitLength, width, stored, valueAt}
 use Rattle.format.specs.Pairs.{Below}
 use Rattle.format.proofs.Cases.{below-or}

@@ -1,12 +1,6 @@
 -- The spare bits of packed numbers: those of the last byte that no number fills. Assumes nothing.
-use mathlib.Core.Path.{_≡_, sym, ap, _∙_}
-use mathlib.Core.Bool.{true}
-use mathlib.Core.List.{List}
-use Prim.Native.Nat.{ℕ, _+_, _-_, _*_, _%_, _^_, _<_, _≤_}
-use native.Mathlib.Nat.{div-one, zero-mod}
-use native.Mathlib.Omega.{arith}
-use lib.ListN.{length, getD, List·getD-eq-default}
-use borrow.Author.Tests.{eqb-true, eq-eqb}
+use Rattle.format.specs.Kit.{_≡_, sym, ap, _∙_, true, List, ℕ, _+_, _-_, _*_, _%_, _^_, _<_, _≤_, div-one, zero-mod, arith, length, getD}
+use Rattle.format.specs.Kit.{List·getD-eq-default, eqb-true, eq-eqb}
 use Rattle.format.specs.Bits.{bitOf, bitAt, gather, bitBytes}
 use Rattle.format.proofs.Cases.{below-or}
 use Rattle.format.proofs.Bits.{gather-zero, zero-gather, gather-in, bitAt-past}

@@ -1,7 +1,5 @@
 -- What the tests say, each by itself, and the numbers' fold in three. Assumes nothing.
-use mathlib.Core.Path.{_≡_, refl}
-use mathlib.Core.List.{List, [], _∷_}
-use Prim.Native.Nat.{ℕ, min, max}
+use Rattle.format.specs.Kit.{_≡_, refl, List, [], _∷_, ℕ, min, max}
 use Rattle.format.specs.Values.{gcd}
 use Rattle.format.specs.Codec.{Fields}
 use Rattle.format.proofs.Gcd.{gcdFrom}

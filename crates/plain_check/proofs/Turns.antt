@@ -1,20 +1,8 @@
 -- The loop over the stored numbers: one more, none left, and when the rest cannot change the answer: once 0, the top bit and the divisor 1
 -- were seen they stay, and no number of the width is greater than the one that is known to fit. Assumes nothing.
-use mathlib.Core.Path.{_≡_, refl, sym, ap, ap₂, _∙_}
-use mathlib.Core.Bool.{Bool, true, false, _&&_}
-use mathlib.Core.List.{List, _∷_}
-use mathlib.Core.Option.{none, some}
-use Prim.Native.Nat.{ℕ, suc, _+_, _-_, _*_, _/_, _%_, _^_, _<_, _≤_, min, max, zero-le}
-use native.Mathlib.Nat.{pow-suc, zero-mul}
-use native.Mathlib.Numerals.{add-one}
-use native.Mathlib.Omega.{arith}
-use lib.Bits.{bitAnd, and-mask}
-use lib.Dec.{eqb, leb}
-use lib.IntN.{ℤ, natAbs}
-use lib.Pow.{pow-pos}
-use lib.ListN.{length, drop, drop-of-length-le}
-use lib.Seq.{drop-cons}
-use borrow.Author.Tests.{eqb-true, eq-eqb, leb-true, le-leb}
+use Rattle.format.specs.Kit.{_≡_, refl, sym, ap, ap₂, _∙_, Bool, true, false, _&&_, List, _∷_, none, some, ℕ, suc, _+_, _-_, _*_, _/_, _%_, _^_, _<_}
+use Rattle.format.specs.Kit.{_≤_, min, max, zero-le, pow-suc, zero-mul, add-one, arith, bitAnd, and-mask, eqb, leb, ℤ, natAbs, pow-pos, length, drop}
+use Rattle.format.specs.Kit.{drop-of-length-le, drop-cons, eqb-true, eq-eqb, leb-true, le-leb}
 use Rattle.format.specs.HeaderNumbers.{unzigzag}
 use Rattle.format.specs.Bits.{fetched, unpacked}
 use Rattle.format.specs.Values.{fits64, gcd, valueAt}

@@ -1,11 +1,6 @@
 -- The tests of a value section of edition 1 (document 01, "Value section"), given n and the header's fields, which keep the header rules.
 -- Assumes nothing.
-use Prim.Native.Nat.{ℕ, _-_, _*_, _/_, _%_, _^_, min, max}
-use mathlib.Core.Bool.{Bool, cond, _&&_, _||_}
-use mathlib.Core.List.{List, [], _∷_}
-use lib.ListN.{length, getD}
-use lib.Dec.{leb, eqb}
-use lib.IntN.{natAbs}
+use Rattle.format.specs.Kit.{ℕ, _-_, _*_, _/_, _%_, _^_, min, max, Bool, cond, _&&_, _||_, List, [], _∷_, length, getD, leb, eqb, natAbs}
 use Rattle.format.specs.HeaderNumbers.{unzigzag}
 use Rattle.format.specs.Bits.{unpacked}
 use Rattle.format.specs.Values.{fits64, gcd}

@@ -1,15 +1,7 @@
 -- Values fetched one after the other: the next one, and that it is worked out without a wrap. Assumes nothing.
-use mathlib.Core.Path.{_≡_, refl, sym, ap, ap₂, _∙_}
-use mathlib.Core.List.{List, [], _∷_, _++_, map}
-use Prim.Native.Nat.{ℕ, zero, suc, _+_, _-_, _*_, _/_, _%_, _^_, _<_, _≤_}
-use native.Mathlib.Nat.{add-mul, zero-mul, one-mul, add-zero, mul-comm}
-use native.Mathlib.Numerals.{add-one}
-use native.Mathlib.Omega.{arith}
-use native.Mathlib.Decide.{decLt}
-use lib.IntN.{ℤ}
-use lib.ListN.{length, drop, set, getD, length-map}
-use lib.Seq.{drop-cons, drop-length, sets}
-use lib.Signed.{mag}
+use Rattle.format.specs.Kit.{_≡_, refl, sym, ap, ap₂, _∙_, List, [], _∷_, _++_, map, ℕ, zero, suc, _+_, _-_, _*_, _/_, _%_, _^_, _<_, _≤_, add-mul}
+use Rattle.format.specs.Kit.{zero-mul, one-mul, add-zero, mul-comm, add-one, arith, decLt, ℤ, length, drop, set, getD, length-map, drop-cons}
+use Rattle.format.specs.Kit.{drop-length, sets, mag}
 use Rattle.format.specs.HeaderNumbers.{unzigzag}
 use Rattle.format.specs.Bits.{bitAt, gather, unpacked, fetched}
 use Rattle.format.specs.Values.{valueAt}

@@ -1,7 +1,5 @@
 -- The values of four stored numbers at once. Assumes nothing.
-use mathlib.Core.List.{List, [], _∷_}
-use Prim.Native.Nat.{ℕ, _+_, _-_, _*_, _/_, _%_, _^_, _<_}
-use lib.IntN.{ℤ}
+use Rattle.format.specs.Kit.{List, [], _∷_, ℕ, _+_, _-_, _*_, _/_, _%_, _^_, _<_, ℤ}
 use Rattle.signed.specs.Sign.{unbiased}
 
 -- w bits of a long, after its first a

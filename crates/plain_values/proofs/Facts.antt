@@ -1,12 +1,5 @@
 -- Edition 1's header rules, and the fields of a list of values, as plain facts. Assumes nothing.
-use mathlib.Core.Path.{_≡_, sym, ap, _∙_}
-use mathlib.Core.Bool.{true}
-use mathlib.Core.List.{List}
-use Prim.Native.Nat.{ℕ, _+_, _*_, _≤_, _<_}
-use native.Mathlib.Omega.{arith}
-use borrow.Author.Tests.{leb-true, eqb-true}
-use lib.IntN.{ℤ}
-use lib.ListN.{length}
+use Rattle.format.specs.Kit.{_≡_, sym, ap, _∙_, true, List, ℕ, _+_, _*_, _≤_, _<_, arith, leb-true, eqb-true, ℤ, length}
 use Rattle.format.specs.Limits.{maxWidth}
 use Rattle.format.specs.HeaderNumbers.{zigzag}
 use Rattle.format.specs.Bits.{packedBytes}

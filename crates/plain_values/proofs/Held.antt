@@ -1,11 +1,6 @@
 -- The values that a section of edition 1 holds, if each is there: those of its stored numbers, and all fit. Assumes nothing.
-use mathlib.Core.Path.{_≡_, refl, sym, ap₂, _∙_, subst}
-use mathlib.Core.Bool.{Bool, true, false, cond}
-use mathlib.Core.List.{List, [], _∷_}
-use mathlib.Core.Option.{Option, none, some, map-eq-some-iff, bind-eq-some-iff}
-use Prim.Native.Nat.{ℕ, zero, suc}
-use native.Mathlib.Omega.{arith}
-use lib.IntN.{ℤ}
+use Rattle.format.specs.Kit.{_≡_, refl, sym, ap₂, _∙_, subst, Bool, true, false, cond, List, [], _∷_, Option, none, some, map-eq-some-iff}
+use Rattle.format.specs.Kit.{bind-eq-some-iff, ℕ, zero, suc, arith, ℤ}
 use Rattle.format.specs.Bits.{tabulate, fetched, unpacked}
 use Rattle.format.specs.Values.{fits64}
 use Rattle.format.specs.Pairs.{Each, Fits}

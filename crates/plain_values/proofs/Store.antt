@@ -1,13 +1,7 @@
 -- The numbers stored of the values, worked out in biased forms, and the section that they make.
 -- Assumes nothing.
-use mathlib.Core.Path.{_≡_, refl, sym, ap, _∙_}
-use mathlib.Core.List.{List, [], _∷_, _++_, map}
-use Prim.Native.Nat.{ℕ, zero, suc, _*_, _-_, _/_, _^_, _≤_, _<_}
-use native.Mathlib.Omega.{arith}
-use lib.Dec.{T}
-use lib.IntN.{ℤ, pos}
-use lib.ListN.{length, getD, drop}
-use lib.Signed.{mag, leZ}
+use Rattle.format.specs.Kit.{_≡_, refl, sym, ap, _∙_, List, [], _∷_, _++_, map, ℕ, zero, suc, _*_, _-_, _/_, _^_, _≤_, _<_, arith, T, ℤ, pos, length}
+use Rattle.format.specs.Kit.{getD, drop, mag, leZ}
 use Rattle.format.specs.Bits.{bitBytes, packedBytes, packed}
 use Rattle.format.specs.Values.{smallest, over, divisor, width, stored}
 use Rattle.format.specs.Pairs.{Each, Fits}

@@ -1,7 +1,5 @@
 -- The values that stored numbers stand for, by the header's fields. Assumes nothing.
-use mathlib.Core.List.{List, map}
-use Prim.Native.Nat.{ℕ}
-use lib.IntN.{ℤ}
+use Rattle.format.specs.Kit.{List, map, ℕ, ℤ}
 use Rattle.format.specs.HeaderNumbers.{unzigzag}
 use Rattle.format.specs.Values.{valueAt}
 use Rattle.format.specs.Codec.{Fields}

@@ -1,11 +1,5 @@
 -- A reading's answers: a refusal leaves both buffers, and success fills the first n places of each. Assumes nothing.
-use mathlib.Core.Path.{_≡_, refl, sym, ap, ap₂, _∙_, subst}
-use mathlib.Core.Bool.{true, false}
-use mathlib.Core.List.{List}
-use Prim.Native.Nat.{ℕ, _≤_, _<_}
-use native.Mathlib.Omega.{arith}
-use borrow.Author.Tests.{le-leb, lt-leb}
-use lib.IntN.{ℤ}
+use Rattle.format.specs.Kit.{_≡_, refl, sym, ap, ap₂, _∙_, subst, true, false, List, ℕ, _≤_, _<_, arith, le-leb, lt-leb, ℤ}
 use Rattle.format.specs.Refusals.{Outcome, done, refused, andThen, need, BUFFER, DAMAGED}
 use Rattle.format.specs.Pairs.{Pairs}
 use Rattle.format.specs.Editions.{editions}

@@ -1,13 +1,6 @@
 -- What is known of the parts of an accepted column: what fills its buffers asks no more. Assumes nothing.
-use mathlib.Core.Path.{_≡_, sym, ap, ap₂, _∙_, subst}
-use mathlib.Core.Bool.{true}
-use mathlib.Core.List.{List, _++_}
-use mathlib.Core.Option.{Option, some}
-use Prim.Native.Nat.{ℕ, _+_, _-_, _≤_}
-use native.Mathlib.Omega.{arith}
-use lib.ListN.{length, take, drop, length-drop}
-use lib.Seq.{take-all}
-use lib.IntN.{ℤ}
+use Rattle.format.specs.Kit.{_≡_, sym, ap, ap₂, _∙_, subst, true, List, _++_, Option, some, ℕ, _+_, _-_, _≤_, arith, length, take, drop, length-drop}
+use Rattle.format.specs.Kit.{take-all, ℤ}
 use Rattle.format.specs.Limits.{Power}
 use Rattle.format.specs.IdsRead.{readRuns, idsOf}
 use Rattle.format.specs.Pairs.{Pairs, Below}

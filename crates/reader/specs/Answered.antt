@@ -1,8 +1,5 @@
 -- What a reading leaves: its reply, and the two buffers afterwards. Assumes nothing.
-use mathlib.Core.Path.{_≡_}
-use mathlib.Core.List.{List}
-use Prim.Native.Nat.{ℕ}
-use lib.IntN.{ℤ}
+use Rattle.format.specs.Kit.{_≡_, List, ℕ, ℤ}
 use Rattle.format.specs.Refusals.{Outcome, done}
 use Rattle.format.specs.Pairs.{Pairs}
 use Rattle.format.specs.Editions.{editions}

@@ -1,16 +1,7 @@
 -- The smallest and the greatest value, worked out in biased forms.
 -- Assumes nothing.
-use mathlib.Core.Path.{_≡_, sym, ap, _∙_, subst}
-use mathlib.Core.Bool.{Bool, true, false, not, cond}
-use mathlib.Core.List.{List, [], _∷_}
-use Prim.Native.Nat.{ℕ, _+_, _^_, _≤_, _<_, min, max}
-use native.Mathlib.Numerals.{add-one}
-use native.Mathlib.Omega.{arith}
-use lib.Dec.{T}
-use lib.IntN.{ℤ, pos}
-use lib.ListN.{length, getD, drop, drop-of-length-le}
-use lib.Seq.{drop-cons}
-use lib.Signed.{mag, leZ}
+use Rattle.format.specs.Kit.{_≡_, sym, ap, _∙_, subst, Bool, true, false, not, cond, List, [], _∷_, ℕ, _+_, _^_, _≤_, _<_, min, max, add-one, arith}
+use Rattle.format.specs.Kit.{T, ℤ, pos, length, getD, drop, drop-of-length-le, drop-cons, mag, leZ}
 use Rattle.format.specs.Values.{leastOf, mostOf, smallest, greatest}
 use Rattle.format.specs.Pairs.{Each, Fits}
 use Rattle.format.proofs.Fits.{size-fits}

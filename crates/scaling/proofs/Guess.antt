@@ -1,12 +1,7 @@
 -- A quotient guessed by products: never too great, so what is left decides. Assumes nothing.
-use mathlib.Core.Path.{_≡_, refl, sym, ap, _∙_}
-use mathlib.Core.Bool.{Bool, true, false}
-use Prim.Native.Nat.{ℕ, _+_, _*_, _/_, _≤_, _<_}
-use native.Mathlib.Nat.{mul-assoc, mul-comm, mul-le-mul, mul-le-mul-right, mul-le-mul-left, add-mul, one-mul, le-div-iff-mul-le, div-lt-iff-lt-mul}
-use lib.Dec.{leb}
-use borrow.Author.Tests.{leb-true, leb-false, le-leb, lt-leb}
-use native.Mathlib.Omega.{arith}
-use lib.Arith.{digits-div}
+use Rattle.format.specs.Kit.{_≡_, refl, sym, ap, _∙_, Bool, true, false, ℕ, _+_, _*_, _/_, _≤_, _<_, mul-assoc, mul-comm, mul-le-mul}
+use Rattle.format.specs.Kit.{mul-le-mul-right, mul-le-mul-left, add-mul, one-mul, le-div-iff-mul-le, div-lt-iff-lt-mul, leb, leb-true, leb-false}
+use Rattle.format.specs.Kit.{le-leb, lt-leb, arith, digits-div}
 use Rattle.format.specs.Values.{gcd}
 use Rattle.format.proofs.Gcd.{gcd-multiple}
 use Rattle.scaling.specs.Reciprocal.{Reciprocal}

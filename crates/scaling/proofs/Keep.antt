@@ -1,13 +1,6 @@
 -- The value of a stored number, worked out in biased forms.
 -- Assumes nothing.
-use mathlib.Core.Path.{_≡_, ap, _∙_}
-use mathlib.Core.Option.{none, some}
-use Prim.Native.Nat.{ℕ, _+_, _*_, _^_, _≤_, _<_}
-use native.Mathlib.Nat.{mul-comm}
-use native.Mathlib.Omega.{arith}
-use borrow.Author.Tests.{lt-ltb, le-ltb}
-use lib.IntN.{ℤ, pos, _+ℤ_}
-use lib.Signed.{mag}
+use Rattle.format.specs.Kit.{_≡_, ap, _∙_, none, some, ℕ, _+_, _*_, _^_, _≤_, _<_, mul-comm, arith, lt-ltb, le-ltb, ℤ, pos, _+ℤ_, mag}
 use Rattle.format.specs.Values.{valueAt}
 use Rattle.format.specs.Codec.{signed64}
 use Rattle.signed.specs.Sign.{biased, unbiased}

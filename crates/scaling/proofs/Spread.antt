@@ -1,10 +1,5 @@
 -- What is worked out of the biased ends is the values' scale. Assumes nothing.
-use mathlib.Core.Path.{_≡_, ap, _∙_}
-use mathlib.Core.List.{List}
-use Prim.Native.Nat.{ℕ, _-_, _≤_}
-use native.Mathlib.Omega.{arith}
-use borrow.Author.Tests.{eq-eqb, ne-eqb}
-use lib.IntN.{ℤ}
+use Rattle.format.specs.Kit.{_≡_, ap, _∙_, List, ℕ, _-_, _≤_, arith, eq-eqb, ne-eqb, ℤ}
 use Rattle.format.specs.HeaderNumbers.{zigzag}
 use Rattle.format.specs.Values.{smallest, greatest, over, spread, gcdOf, divisor}
 use Rattle.format.specs.Pairs.{Each, Fits}

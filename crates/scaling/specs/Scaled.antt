@@ -1,8 +1,5 @@
 -- What `Ends` and `Scale` say of the values. Assumes nothing.
-use mathlib.Core.Path.{_≡_}
-use mathlib.Core.List.{List}
-use Prim.Native.Nat.{ℕ, _/_, _≤_}
-use lib.IntN.{ℤ}
+use Rattle.format.specs.Kit.{_≡_, List, ℕ, _/_, _≤_, ℤ}
 use Rattle.format.specs.HeaderNumbers.{zigzag}
 use Rattle.format.specs.Values.{smallest, greatest, spread, divisor}
 use Rattle.format.specs.Pairs.{Each, Fits}

@@ -1,14 +1,6 @@
 -- The turns of the loops over a block: what was found right so far, with the tests that are left, is what all the tests give. Assumes nothing.
-use mathlib.Core.Path.{_≡_, refl, sym, ap, ap₂, _∙_}
-use mathlib.Core.Bool.{Bool, true, false, cond, _&&_, and-true, and-assoc}
-use mathlib.Core.List.{List}
-use Prim.Native.Nat.{ℕ, suc, _+_, _-_, _*_, _/_, _^_, _<_, _≤_}
-use lib.Pow.{pow-add}
-use native.Mathlib.Omega.{arith}
-use native.Mathlib.Numerals.{add-one}
-use lib.Dec.{eqb, leb, ltb}
-use lib.ListN.{drop}
-use borrow.Author.Tests.{ltb-true, ltb-false, le-leb, lt-leb}
+use Rattle.format.specs.Kit.{_≡_, refl, sym, ap, ap₂, _∙_, Bool, true, false, cond, _&&_, and-true, and-assoc, List, ℕ, suc, _+_, _-_, _*_, _/_, _^_}
+use Rattle.format.specs.Kit.{_<_, _≤_, pow-add, arith, add-one, eqb, leb, ltb, drop, ltb-true, ltb-false, le-leb, lt-leb}
 use Rattle.format.specs.Limits.{Power}
 use Rattle.format.specs.Bytes.{lowAt, highAt}
 use Rattle.format.specs.Ids.{byKind, rankBytes}

@@ -1,14 +1,6 @@
 -- Bytes compared as numbers. Assumes nothing.
-use mathlib.Core.Path.{_≡_, refl, sym, ap, ap₂, _∙_}
-use mathlib.Core.Bool.{Bool, true, false}
-use mathlib.Core.List.{List}
-use Prim.Native.Nat.{ℕ, zero, suc, _+_, _*_, _/_, _^_, _<_, _≤_}
-use native.Mathlib.Nat.{mod-eq-of-lt}
-use native.Mathlib.Omega.{arith}
-use lib.Dec.{eqb, lit<}
-use lib.ListN.{length, take, drop, getD, length-drop, length-take}
-use lib.Seq.{length-take-le}
-use borrow.Author.Tests.{eq-eqb, ne-eqb}
+use Rattle.format.specs.Kit.{_≡_, refl, sym, ap, ap₂, _∙_, Bool, true, false, List, ℕ, zero, suc, _+_, _*_, _/_, _^_, _<_, _≤_, mod-eq-of-lt, arith}
+use Rattle.format.specs.Kit.{eqb, lit<, length, take, drop, getD, length-drop, length-take, length-take-le, eq-eqb, ne-eqb}
 use Rattle.format.specs.Bytes.{digits, fromDigits, low, fromLow, same, lowAt}
 use Rattle.format.specs.Ids.{Entry, entryBytes, endBlock}
 use Rattle.format.specs.Pairs.{Below}

@@ -1,9 +1,5 @@
 -- What follows the end block. Assumes nothing.
-use mathlib.Core.Path.{_≡_, refl, sym}
-use mathlib.Core.List.{List, []}
-use Prim.Native.Nat.{ℕ, suc, _+_}
-use lib.ListN.{length}
-use borrow.Author.Tests.{eq-eqb, ne-eqb}
+use Rattle.format.specs.Kit.{_≡_, refl, sym, List, [], ℕ, suc, _+_, length, eq-eqb, ne-eqb}
 use Rattle.format.specs.Refusals.{done, refused, andThen, need}
 use Rattle.format.specs.Ids.{Entry, notTwo, jumpsFrom}
 use Rattle.format.specs.IdsRead.{readRuns}

@@ -1,14 +1,7 @@
 -- The second pass, over blocks that were judged: the jump entries. At each turn the runs ahead stand at the place, and the entries that are
 -- left are theirs; a block's entries are one and the same, so a turn passes them at once. Assumes nothing.
-use mathlib.Core.Path.{_≡_, refl, sym, ap, ap₂, _∙_}
-use mathlib.Core.Bool.{Bool, true, false}
-use mathlib.Core.List.{List, [], _∷_, _++_}
-use Prim.Native.Nat.{ℕ, suc, _+_, _-_, _*_, _<_, _≤_, zero-le}
-use native.Mathlib.Nat.{add-zero}
-use native.Mathlib.Numerals.{add-one}
-use native.Mathlib.Omega.{arith}
-use lib.ListN.{length, take, drop, replicate, getD}
-use borrow.Author.Tests.{lt-ltb, le-ltb}
+use Rattle.format.specs.Kit.{_≡_, refl, sym, ap, ap₂, _∙_, Bool, true, false, List, [], _∷_, _++_, ℕ, suc, _+_, _-_, _*_, _<_, _≤_, zero-le, add-zero}
+use Rattle.format.specs.Kit.{add-one, arith, length, take, drop, replicate, getD, lt-ltb, le-ltb}
 use Rattle.format.specs.Limits.{Power, maxBlock}
 use Rattle.format.specs.Refusals.{done, refused, need}
 use Rattle.format.specs.Bytes.{same, lowAt}

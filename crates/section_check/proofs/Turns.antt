@@ -1,15 +1,7 @@
 -- The turns of the judge's loops. Over the blocks the loop keeps a fuel that will do, and that the judge from the start is the judge from here;
 -- over equal entries, that those passed were right. Assumes nothing.
-use mathlib.Core.Path.{_≡_, refl, sym, ap, ap₂, _∙_}
-use mathlib.Core.Bool.{Bool, true, false, cond}
-use mathlib.Core.List.{List, _++_}
-use Prim.Native.Nat.{ℕ, zero, suc, _+_, _-_, _*_, _<_, _≤_}
-use native.Mathlib.Nat.{add-zero}
-use native.Mathlib.Omega.{arith}
-use native.Mathlib.Numerals.{add-one}
-use lib.Dec.{eqb, leb}
-use lib.ListN.{length, take, drop, replicate, getD}
-use borrow.Author.Tests.{eq-eqb, ne-eqb, le-leb, lt-leb, lt-ltb, le-ltb, leb-true}
+use Rattle.format.specs.Kit.{_≡_, refl, sym, ap, ap₂, _∙_, Bool, true, false, cond, List, _++_, ℕ, zero, suc, _+_, _-_, _*_, _<_, _≤_, add-zero}
+use Rattle.format.specs.Kit.{arith, add-one, eqb, leb, length, take, drop, replicate, getD, eq-eqb, ne-eqb, le-leb, lt-leb, lt-ltb, le-ltb, leb-true}
 use Rattle.format.specs.Limits.{maxBlock, endNumber}
 use Rattle.format.specs.Refusals.{Outcome, done, refused, need}
 use Rattle.format.specs.Bytes.{same, lowAt}

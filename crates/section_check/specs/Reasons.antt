@@ -1,10 +1,5 @@
 -- The judge's tests as reasons, 0 for none, and what the code's enums stand for. Assumes nothing.
-use mathlib.Core.Path.{_≡_}
-use Prim.Native.Nat.{ℕ, _+_, _*_}
-use mathlib.Core.Bool.{cond, _&&_}
-use mathlib.Core.List.{List, _++_}
-use lib.ListN.{length, take, drop, replicate}
-use lib.Dec.{leb, ltb}
+use Rattle.format.specs.Kit.{_≡_, ℕ, _+_, _*_, cond, _&&_, List, _++_, length, take, drop, replicate, leb, ltb}
 use Rattle.format.specs.Refusals.{Outcome, done, refused}
 use Rattle.format.specs.Bytes.{same}
 use Rattle.format.specs.Ids.{Entry, blockBytes, endBlock}

@@ -1,10 +1,6 @@
 -- The invariants of the loops over runs. Each holds since a turn takes the first run off what is left, and puts its bytes. Assumes nothing.
-use mathlib.Core.Path.{_≡_, refl, sym, ap, _∙_, subst}
-use mathlib.Core.List.{List, [], append-nil}
-use Prim.Native.Nat.{ℕ, suc, _+_, _-_, _*_, _/_, _≤_, zero-le}
-use native.Mathlib.Omega.{arith}
-use lib.ListN.{length, getD, drop, replicate}
-use lib.Seq.{sets}
+use Rattle.format.specs.Kit.{_≡_, refl, sym, ap, _∙_, subst, List, [], append-nil, ℕ, suc, _+_, _-_, _*_, _/_, _≤_, zero-le, arith, length, getD}
+use Rattle.format.specs.Kit.{drop, replicate, sets}
 use Rattle.format.specs.Limits.{maxBlock}
 use Rattle.format.specs.Bytes.{bytesOf}
 use Rattle.format.specs.Ids.{runs, blockBytes, blockOf, entryBytes, jumpsFrom}

@@ -1,11 +1,5 @@
 -- The section as a whole: the bounds of its length, and its bytes in three parts. Assumes nothing.
-use mathlib.Core.Path.{_≡_, refl, sym, ap, _∙_}
-use mathlib.Core.List.{List, [], _++_}
-use Prim.Native.Nat.{ℕ, suc, _+_, _≤_, zero-le}
-use native.Mathlib.Omega.{arith}
-use lib.ListN.{length}
-use lib.Seq.{sets}
-use borrow.Author.Tests.{ne-eqb, eq-eqb}
+use Rattle.format.specs.Kit.{_≡_, refl, sym, ap, _∙_, List, [], _++_, ℕ, suc, _+_, _≤_, zero-le, arith, length, sets, ne-eqb, eq-eqb}
 use Rattle.format.specs.Limits.{Power, maxId}
 use Rattle.format.specs.Bytes.{bytesOf}
 use Rattle.format.specs.Ids.{runs, blockOf, endBlock, Entry, entryBytes, jumpsFrom, notTwo, jumps, blocks, idSection}

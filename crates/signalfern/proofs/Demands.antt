@@ -1,13 +1,6 @@
 -- The three demands, stated for the shipped calls: r, c, q and a below are any replies that keep the promises of `write`, `check`,
 -- `read` and `look_up` in src/lib.rt, and a list with ′ is a lent buffer after the call. Assumes nothing.
-use mathlib.Core.Path.{_≡_, refl, sym, ap, _∙_, subst}
-use mathlib.Core.List.{List, _++_}
-use Prim.Native.Nat.{ℕ, _≤_}
-use native.Mathlib.Omega.{arith}
-use lib.IntN.{ℤ}
-use lib.ListN.{length, take, drop}
-use lib.Seq.{take-at}
-use borrow.Author.Tests.{le-leb}
+use Rattle.format.specs.Kit.{_≡_, refl, sym, ap, _∙_, subst, List, _++_, ℕ, _≤_, arith, ℤ, length, take, drop, take-at, le-leb}
 use Rattle.format.specs.Limits.{maxId}
 use Rattle.format.specs.Refusals.{Outcome, done, refused, andThen, need}
 use Rattle.format.specs.Pairs.{Pairs, Each, Fits, Valid}
@@ -173,5 +166,7 @@ module _ (bytes : List ℕ) (c : Reply) (n : ℕ) (kept : replyOf c ≡ check ed
       ≡ wordless (listAnswer (check-holds .opened .head .power) (check-holds .pairs .ids) (check-holds .pairs .values) id))
       × (words (check-holds .opened .head .power) (check-holds .pairs .ids) id ≤ strideWords (check-holds .opened .head .power))
   check-then-look-up id h a k =
-      let s = accepted-answers editions (lawful-reader editions) bytes (check-holds .opened) (check-holds .pairs) (check-holds .is-opened) (check-holds .is-accepted) id h in
+      let s =
+      accepted-answers editions (lawful-reader editions) bytes (check-holds .opened) (check-holds .pairs) (check-holds .is-opened)
+      (check-holds .is-accepted) id h in
       (k ∙ s .looked, s .walked, s .few-words)

@@ -1,9 +1,5 @@
 -- What crosses the boundary, by the cases of the library's enums. Assumes nothing.
-use mathlib.Core.Path.{_≡_, sym, ap, ap₂, _∙_}
-use mathlib.Core.Bool.{Bool, true, false}
-use Prim.Native.Nat.{ℕ}
-use lib.Dec.{leb}
-use lib.IntN.{pos}
+use Rattle.format.specs.Kit.{_≡_, sym, ap, ap₂, _∙_, Bool, true, false, ℕ, leb, pos}
 use Rattle.format.specs.Limits.{maxId}
 use Rattle.format.specs.Refusals.{refused, need, HEADER, ID}
 use Rattle.format.specs.Walk.{FewWords}

@@ -1,10 +1,6 @@
 -- What crosses the C boundary for each outcome of a call (include/signalfern.h says the same in words). Fields that a case leaves
 -- free hold 0. Assumes nothing.
-use Prim.Native.Nat.{ℕ}
-use mathlib.Core.List.{List}
-use mathlib.Core.Option.{Option, none, some}
-use lib.Dec.{leb}
-use lib.IntN.{pos}
+use Rattle.format.specs.Kit.{ℕ, List, Option, none, some, leb, pos}
 use Rattle.format.specs.Limits.{maxId}
 use Rattle.format.specs.Refusals.{Outcome, done, refused, need, HEADER, ID}
 use Rattle.format.specs.LookUp.{Look, found, absent, lookUpIn}

@@ -1,12 +1,6 @@
 -- What the machine reads back from the bits of a signed number, by the outcome of the test `v < 0`.
 -- Assumes nothing.
-use mathlib.Core.Path.{_≡_, sym, ap, subst, _∙_}
-use mathlib.Core.Bool.{true, false}
-use Prim.Native.Nat.{ℕ, suc, _+_, _-_, _<_, _≤_, _^_}
-use native.Mathlib.Omega.{arith}
-use borrow.Author.Tests.{ltb-true}
-use lib.IntN.{ℤ, pos, negsuc}
-use lib.Signed.{mag, ltZ}
+use Rattle.format.specs.Kit.{_≡_, sym, ap, subst, _∙_, true, false, ℕ, suc, _+_, _-_, _<_, _≤_, _^_, arith, ltb-true, ℤ, pos, negsuc, mag, ltZ}
 use mir.Syntax.{w64}
 use mir.Val.{SFits, toZ, ofZ}
 use mir.Facts.{toZ-ofZ, toZ-pos, toZ-neg}

@@ -1,15 +1,7 @@
 -- Laws of the biased form: it is another way to write a signed number of 64 bits; order, differences and sums are the same in it.
 -- Assumes nothing.
-use mathlib.Core.Path.{_≡_, ap, _∙_}
-use mathlib.Core.Bool.{not}
-use Prim.Native.Nat.{ℕ, zero, suc, _+_, _-_, _^_, _<_, _≤_}
-use native.Mathlib.Nat.{add-sub-cancel-left}
-use native.Mathlib.Omega.{arith}
-use native.Mathlib.Decide.{decLt}
-use borrow.Author.Tests.{lt-ltb, le-ltb}
-use lib.Dec.{T, leb→le, nleb→lt}
-use lib.IntN.{ℤ, pos, negsuc, natAbs, subℕ, _+ℤ_}
-use lib.Signed.{mag, leZ}
+use Rattle.format.specs.Kit.{_≡_, ap, _∙_, not, ℕ, zero, suc, _+_, _-_, _^_, _<_, _≤_, add-sub-cancel-left, arith, decLt, lt-ltb, le-ltb, T, leb→le}
+use Rattle.format.specs.Kit.{nleb→lt, ℤ, pos, negsuc, natAbs, subℕ, _+ℤ_, mag, leZ}
 use mir.Syntax.{w64}
 use mir.Val.{toZ, ofZ}
 use mir.Facts.{toZ-ofZ}

@@ -1,7 +1,5 @@
 -- The code's edition, fields and value as the definitions' own; the tests of an edition's value section. Assumes nothing.
-use Prim.Native.Nat.{ℕ}
-use mathlib.Core.Bool.{Bool}
-use mathlib.Core.List.{List}
+use Rattle.format.specs.Kit.{ℕ, Bool, List}
 use Rattle.format.specs.Codec.{Fields}
 use Rattle.format.specs.Editions.{Edition, plain}
 use Rattle.plain_check.specs.ValuesOk.{valuesOk}

@@ -1,15 +1,6 @@
 -- The turns of the loops that look for a fault. Assumes nothing.
-use mathlib.Core.Path.{_≡_, refl}
-use mathlib.Core.Bool.{true, false}
-use mathlib.Core.List.{List, [], _∷_}
-use mathlib.Core.Option.{none, some}
-use Prim.Native.Nat.{ℕ, zero, suc, _+_, _≤_, _<_}
-use native.Mathlib.Numerals.{add-one}
-use native.Mathlib.Omega.{arith}
-use lib.Dec.{leb}
-use lib.ListN.{length, getD, drop, drop-of-length-le}
-use lib.Seq.{drop-cons}
-use borrow.Author.Tests.{lt-ltb, le-ltb, le-leb}
+use Rattle.format.specs.Kit.{_≡_, refl, true, false, List, [], _∷_, none, some, ℕ, zero, suc, _+_, _≤_, _<_, add-one, arith, leb, length, getD, drop}
+use Rattle.format.specs.Kit.{drop-of-length-le, drop-cons, lt-ltb, le-ltb, le-leb}
 use Rattle.format.specs.Limits.{maxId}
 use Rattle.format.specs.Pairs.{Asc}
 use Rattle.format.proofs.Places.{asc-from}

@@ -1,8 +1,7 @@
 -- `block_writer::put_block` meets its contract. Assumes nothing.
 use Rattle.block_writer.proofs.Data.{length-places, block-is}
-use native.Mathlib.Omega.{arith}
+use Rattle.format.specs.Kit.{arith, needs}
 use Rattle.format.specs.Ids.{blockBytes}
-use borrow.Author.Needs.{needs}
 use Rattle.block_writer.proofs.put_block.Statement.{statement}
 use Rattle.block_writer.proofs.put_block.Tie as tie
 

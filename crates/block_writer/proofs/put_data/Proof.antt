@@ -1,9 +1,5 @@
 -- `block_writer::put_data` meets its contract. Assumes nothing.
-use mathlib.Core.Path.{_≡_, sym, ap, _∙_}
-use native.Mathlib.Omega.{arith}
-use lib.ListN.{length}
-use lib.Seq.{sets}
-use borrow.Author.Needs.{needs}
+use Rattle.format.specs.Kit.{_≡_, sym, ap, _∙_, arith, length, sets, needs}
 use Rattle.format.specs.Ids.{kindOf}
 use Rattle.blocks.specs.Kinds.{kindIs}
 use Rattle.blocks.specs.declared.Kind as K
@@ -48,8 +44,7 @@ returns-3 c =
 
 pub put-data-spec : {M : Type 1} → statement M
 put-data-spec =
-    tie.close
-    (tie.spec
+    tie.close (tie.spec
     (λ c κs. search needs) (λ c. search needs)
     put-sparse-requires
     (λ c. search needs)

@@ -1,7 +1,5 @@
 -- `block_writer::put_dense` meets its contract. Assumes nothing.
-use native.Mathlib.Omega.{arith}
-use mathlib.Core.Path.{_∙_}
-use borrow.Author.Needs.{needs}
+use Rattle.format.specs.Kit.{arith, _∙_, needs}
 use Rattle.block_writer.proofs.Ranks.{plain}
 use Rattle.block_writer.proofs.put_dense.Statement.{statement}
 use Rattle.block_writer.proofs.put_dense.Tie as tie
@@ -19,5 +17,4 @@ returns c =
 
 pub put-dense-spec : {M : Type 1} → statement M
 put-dense-spec =
-    tie.close
-    (tie.spec (λ c κs. search needs) put-ranked-requires (λ c. search needs) returns (λ c. search needs) (λ c. search needs))
+    tie.close (tie.spec (λ c κs. search needs) put-ranked-requires (λ c. search needs) returns (λ c. search needs) (λ c. search needs))

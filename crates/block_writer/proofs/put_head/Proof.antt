@@ -1,8 +1,5 @@
 -- `block_writer::put_head` meets its contract. Assumes nothing.
-use mathlib.Core.Path.{refl, _∙_}
-use lib.ListN.{length}
-use Prim.Native.Nat.{_-_}
-use borrow.Author.Needs.{needs}
+use Rattle.format.specs.Kit.{refl, _∙_, length, _-_, needs}
 use Rattle.block_writer.proofs.Data.{head-is}
 use Rattle.block_writer.proofs.put_head.Statement.{statement}
 use Rattle.block_writer.proofs.put_head.Tie as tie
@@ -16,8 +13,7 @@ returns c =
 
 pub put-head-spec : {M : Type 1} → statement M
 put-head-spec =
-    tie.close
-    (tie.spec
+    tie.close (tie.spec
     (λ c. search needs) (λ c κs. search needs) (λ c κs. search needs) (λ c κs. search needs) (λ c. search needs)
     (λ c. search needs) (λ c κs. search needs) (λ c. search needs)
     returns)

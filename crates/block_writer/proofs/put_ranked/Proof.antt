@@ -1,9 +1,6 @@
 -- `block_writer::put_ranked` meets its contract. The loop's invariant (`Ranked`) holds since each turn lays a rank and a stride's words
 -- at their two places, and the count before the next stride is the sum of the ones laid. Assumes nothing.
-use borrow.Author.Needs.{needs}
-use native.Mathlib.Omega.{arith}
-use mathlib.Core.Path.{refl}
-use Prim.Native.Nat.{_+_, _-_, _≤_}
+use Rattle.format.specs.Kit.{needs, arith, refl, _+_, _-_, _≤_}
 use Rattle.format.proofs.Sizes.{ranks-some}
 use Rattle.block_writer.proofs.Ranks.{Ranked, strides-are, none, more, room, end}
 use Rattle.block_writer.proofs.put_ranked.Statement.{statement}
@@ -50,8 +47,7 @@ loop-again c =
 
 pub put-ranked-spec : {M : Type 1} → statement M
 put-ranked-spec =
-    tie.close
-    (tie.spec Inv-loop μ-loop
+    tie.close (tie.spec Inv-loop μ-loop
     (λ c κs. search needs) (λ c κs. search needs)
     (λ c. let s = c .before .before .before .before in omega (arith, ranks-some (s .args .p) (s .pre .2) (λ e. omega arith) .0))
     (λ c. let s = c .before .before .before .before in omega (arith, ranks-some (s .args .p) (s .pre .2) (λ e. omega arith) .0))

@@ -1,12 +1,5 @@
 -- `block_writer::put_sparse` meets its contract. Assumes nothing.
-use mathlib.Core.Path.{_≡_, refl, sym, ap, _∙_}
-use mathlib.Core.List.{List}
-use Prim.Native.Nat.{ℕ, _+_, _-_, _*_, _≤_}
-use native.Mathlib.Nat.{add-zero}
-use native.Mathlib.Omega.{arith}
-use lib.ListN.{length}
-use lib.Seq.{sets}
-use borrow.Author.Needs.{needs}
+use Rattle.format.specs.Kit.{_≡_, refl, sym, ap, _∙_, List, ℕ, _+_, _-_, _*_, _≤_, add-zero, arith, length, sets, needs}
 use Rattle.format.specs.Bytes.{low, bytesOf}
 use Rattle.block_writer.specs.Part.{placesFrom}
 use Rattle.block_writer.proofs.Data.{short-more, short-end}
@@ -44,8 +37,7 @@ returns c =
 
 pub put-sparse-spec : {M : Type 1} → statement M
 put-sparse-spec =
-    tie.close
-    (tie.spec Inv-loop μ-loop
+    tie.close (tie.spec Inv-loop μ-loop
     (λ c. (search needs, refl, rw add-zero))
     (λ c. search needs) (λ c. search needs) (λ c κs. search needs) (λ c. search needs) (λ c. search needs) (λ c κs. search needs)
     (λ c κs. search needs) (λ c. search needs) (λ c. search needs)

@@ -1,8 +1,5 @@
 -- `block_writer::put_words` meets its contract. Assumes nothing.
-use borrow.Author.Needs.{needs}
-use native.Mathlib.Omega.{arith}
-use mathlib.Core.Path.{_≡_, subst}
-use Prim.Native.Nat.{ℕ, _-_}
+use Rattle.format.specs.Kit.{needs, arith, _≡_, subst, ℕ, _-_}
 use Rattle.block_writer.specs.Part.{Gone}
 use Rattle.block_writer.proofs.Lay.{Lain, none, all, one-more}
 use Rattle.block_writer.proofs.put_words.Statement.{statement}
@@ -35,8 +32,7 @@ returns c =
 
 pub put-words-spec : {M : Type 1} → statement M
 put-words-spec =
-    tie.close
-    (tie.spec Inv-loop μ-loop
+    tie.close (tie.spec Inv-loop μ-loop
     (λ c. none (c .before .before .pre .0))
     (λ c. search needs) (λ c κs. search needs) (λ c. search needs) (λ c. search needs) (λ c κs. search needs)
     (λ c κs. search needs) (λ c. search needs) (λ c. search needs) (λ c. search needs)

@@ -1,10 +1,5 @@
 -- `block_writer::word_of` meets its contract. Assumes nothing.
-use lib.Pow.{pow-mono}
-use native.Mathlib.Nat.{pow-suc}
-use Prim.Native.Nat.{suc, _%_, _-_}
-use borrow.Author.Needs.{needs}
-use native.Mathlib.Omega.{arith}
-use lib.ListN.{length}
+use Rattle.format.specs.Kit.{pow-mono, pow-suc, suc, _%_, _-_, needs, arith, length}
 use Rattle.block_writer.proofs.Words.{Gathered, start, done, at-end, past, more, low-bits}
 use Rattle.block_writer.proofs.word_of.Statement.{statement}
 use Rattle.block_writer.proofs.word_of.Tie as tie
@@ -35,8 +30,7 @@ loop-again c =
 
 pub word-of-spec : {M : Type 1} → statement M
 word-of-spec =
-    tie.close
-    (tie.spec Inv-loop μ-loop
+    tie.close (tie.spec Inv-loop μ-loop
     (λ c. start (c .before .pre .0))
     (λ c. search needs) (λ c. search needs) (λ c κs. search needs)
     returns

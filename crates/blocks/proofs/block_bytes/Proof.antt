@@ -1,6 +1,5 @@
 -- `blocks::block_bytes` meets its contract. Assumes nothing.
-use borrow.Author.Needs.{needs}
-use native.Mathlib.Omega.{arith}
+use Rattle.format.specs.Kit.{needs, arith}
 use Rattle.format.proofs.Sizes.{block-total}
 use Rattle.blocks.proofs.block_bytes.Statement.{statement}
 use Rattle.blocks.proofs.block_bytes.Tie as tie

@@ -1,7 +1,5 @@
 -- `blocks::data_bytes` meets its contract. Assumes nothing.
-use mathlib.Core.Path.{sym}
-use native.Mathlib.Omega.{arith}
-use borrow.Author.Needs.{needs}
+use Rattle.format.specs.Kit.{sym, arith, needs}
 use Rattle.format.proofs.Sizes.{data-sparse, data-dense, data-all}
 use Rattle.blocks.proofs.data_bytes.Statement.{statement}
 use Rattle.blocks.proofs.data_bytes.Tie as tie

@@ -1,12 +1,7 @@
 -- `blocks::ones_from` meets its contract. Assumes nothing.
-use mathlib.Core.Path.{_≡_, ap, _∙_}
-use Prim.Native.Nat.{_+_, _-_, _*_, _≤_}
-use native.Mathlib.Omega.{arith}
-use borrow.Author.Needs.{needs}
+use Rattle.format.specs.Kit.{_≡_, ap, _∙_, _+_, _-_, _*_, _≤_, arith, needs, onesIn, zero-add}
 use Rattle.blocks.proofs.Ones.{ones-begin, ones-on, ones-end}
 use Rattle.format.specs.LookUp.{onesFrom}
-use lib.Count.{onesIn}
-use native.Mathlib.Nat.{zero-add}
 use Rattle.blocks.proofs.ones_from.Statement.{statement}
 use Rattle.blocks.proofs.ones_from.Tie as tie
 
@@ -31,8 +26,7 @@ returns c =
 
 pub ones-from-spec : {M : Type 1} → statement M
 ones-from-spec =
-    tie.close
-    (tie.spec Inv-loop μ-loop
+    tie.close (tie.spec Inv-loop μ-loop
     (λ c. let a = c .before .args in (zero-add _ ∙ ones-begin (a .s .now) (a .m) (a .n) (a .first), omega arith, omega arith))
     (λ c. search needs) (λ c. search needs) (λ c. search needs) (λ c κs. search needs) (λ c κs. search needs) (λ c. search needs)
     (λ c. search needs) (λ c. search needs)

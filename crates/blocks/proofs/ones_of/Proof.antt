@@ -1,9 +1,6 @@
 -- `blocks::ones_of` meets its contract. Assumes nothing.
-use mathlib.Core.Path.{sym, _∙_}
-use native.Mathlib.Omega.{arith}
-use borrow.Author.Needs.{needs}
+use Rattle.format.specs.Kit.{sym, _∙_, arith, needs, ones-le}
 use Rattle.format.proofs.Ones.{ones-in}
-use lib.Count.{ones-le}
 use Rattle.blocks.proofs.ones_of.Statement.{statement}
 use Rattle.blocks.proofs.ones_of.Tie as tie
 

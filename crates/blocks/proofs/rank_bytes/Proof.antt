@@ -1,7 +1,5 @@
 -- `blocks::rank_bytes` meets its contract. Assumes nothing.
-use borrow.Author.Needs.{needs}
-use native.Mathlib.Omega.{arith}
-use mathlib.Core.Path.{sym}
+use Rattle.format.specs.Kit.{needs, arith, sym}
 use Rattle.format.proofs.Sizes.{ranks-none, rank-some, rank-max}
 use Rattle.blocks.proofs.rank_bytes.Statement.{statement}
 use Rattle.blocks.proofs.rank_bytes.Tie as tie

@@ -1,6 +1,5 @@
 -- `blocks::strides` meets its contract. Assumes nothing.
-use borrow.Author.Needs.{needs}
-use native.Mathlib.Omega.{arith}
+use Rattle.format.specs.Kit.{needs, arith}
 use Rattle.format.proofs.Sizes.{strides-max}
 use Rattle.blocks.proofs.strides.Statement.{statement}
 use Rattle.blocks.proofs.strides.Tie as tie

@@ -1,6 +1,5 @@
 -- `cases::at_powers` is safe and ends.
-use Prim.Native.Nat.{_-_}
-use borrow.Author.Needs.{needs}
+use Rattle.format.specs.Kit.{_-_, needs}
 use Rattle.cases.proofs.at_powers.Statement.{statement}
 use Rattle.cases.proofs.at_powers.Tie as tie
 
@@ -12,18 +11,6 @@ abbrev μ-loop : tie.MeasureT-loop
 
 pub at-powers-spec : {M : Type 1} → statement M
 at-powers-spec =
-    tie.close
-    (tie.spec
-    Inv-loop
-    μ-loop
-    (λ c. search needs)
-    (λ c κs. search needs)
-    (λ c. search needs)
-    (λ c κs. search needs)
-    (λ c κs. search needs)
-    (λ c κs. search needs)
-    (λ c. search needs)
-    (λ c. search needs)
-    (λ c. search needs)
-    (λ c κs. search needs)
-    (λ c. search needs))
+    tie.close (tie.spec Inv-loop μ-loop
+    (λ c. search needs) (λ c κs. search needs) (λ c. search needs) (λ c κs. search needs) (λ c κs. search needs) (λ c κs. search needs)
+    (λ c. search needs) (λ c. search needs) (λ c. search needs) (λ c κs. search needs) (λ c. search needs))

@@ -1,8 +1,5 @@
 -- `checking::accepts` meets its contract. Assumes nothing.
-use borrow.Author.Needs.{needs}
-use mathlib.Core.Path.{_≡_, ap, _∙_}
-use native.Mathlib.Omega.{arith}
-use borrow.Author.Tests.{not-true, not-false}
+use Rattle.format.specs.Kit.{needs, _≡_, ap, _∙_, arith, not-true, not-false}
 use Rattle.format.specs.Editions.{editions, codec}
 use Rattle.format.specs.Rules.{Sound}
 use Rattle.format.specs.Check.{accepted}
@@ -27,7 +24,9 @@ tested c =
     column-ok bs (columnOf (st .args .c)) (below-all 256 bs (λ i. c .shared-slice-known .given i .fits)) (st .pre)
 
 add-end : tie.Need-add-end
-add-end c = omega (arith, opened (c .before .before .before .before) .whole, c .before .size .ensures, c .size2 .ensures, c .before .before .before .before .good .0 .0)
+add-end c =
+    let st = c .before .before .before .before in
+    omega (arith, opened st .whole, c .before .size .ensures, c .size2 .ensures, st .good .0 .0)
 
 part-ids-ok-end : tie.Need-part-ids-ok-end
 part-ids-ok-end c = omega (arith, opened (c .before .before .before .before) .whole, c .before .size .ensures, c .size2 .ensures)
@@ -38,7 +37,8 @@ ids-ok-requires c κs = opened (c .before .before .before .before .before) .fact
 returns : tie.Need-returns
 returns c =
     let q = c .before .before .before in
-    ids-fail _ _ _ _ (q .before .size .ensures) (q .size2 .ensures) (c .before .ids-ok .ensures) (not-true _ (c .if1 .taken)) ∙ tested (q .before .before .before)
+    ids-fail _ _ _ _ (q .before .size .ensures) (q .size2 .ensures) (c .before .ids-ok .ensures) (not-true _ (c .if1 .taken))
+    ∙ tested (q .before .before .before)
 
 sub-check : tie.Need-sub-check
 sub-check c =
@@ -56,24 +56,22 @@ check-requires c κs =
     let st = q .before .before .before .before in
     let h = columnOf (st .args .c) .head in
     let f = opened st .facts in
-    (f .count, ap (codec (h .edition) .fieldsOk (h .count) (h .fields)) (values-long _ (columnOf (st .args .c)) _ _ (q .before .size .ensures) (q .size2 .ensures) (st .pre)) ∙ f .fields)
+    let v = values-long _ (columnOf (st .args .c)) _ _ (q .before .size .ensures) (q .size2 .ensures) (st .pre) in
+    (f .count, ap (codec (h .edition) .fieldsOk (h .count) (h .fields)) v ∙ f .fields)
 
 returns-2 : tie.Need-returns-2
 returns-2 c =
     let t = c .before .before .before .before in
     let q = t .before .before in
-    ids-pass _ _ _ _ (q .before .size .ensures) (q .size2 .ensures) (t .ids-ok .ensures) (not-false _ (c .before .before .before .if1 .left)) (c .check .ensures)
-    ∙ tested (q .before .before .before)
+    let l = not-false _ (c .before .before .before .if1 .left) in
+    ids-pass _ _ _ _ (q .before .size .ensures) (q .size2 .ensures) (t .ids-ok .ensures) l (c .check .ensures) ∙ tested (q .before .before .before)
 
 pub accepts-spec : {M : Type 1} → statement M
 accepts-spec =
-    tie.close
-    (tie.spec
-    (λ c κs. search needs)
-    (λ c κs. search needs)
+    tie.close (tie.spec
+    (λ c κs. search needs) (λ c κs. search needs)
     add-end
-    (λ c. search needs)
-    (λ c. search needs)
+    (λ c. search needs) (λ c. search needs)
     part-ids-ok-end
     ids-ok-requires
     returns

@@ -1,9 +1,7 @@
 -- `checking::check` meets its contract. Assumes nothing.
-use mathlib.Core.Path.{sym, _∙_}
-use borrow.Author.Tests.{not-true, not-false}
+use Rattle.format.specs.Kit.{sym, _∙_, not-true, not-false, needs}
 use Rattle.column.proofs.Facts.{opened-as, refused-as}
 use Rattle.checking.proofs.Steps.{check-refused, check-damaged, check-done}
-use borrow.Author.Needs.{needs}
 use Rattle.checking.proofs.check.Statement.{statement}
 use Rattle.checking.proofs.check.Tie as tie
 
@@ -34,11 +32,8 @@ returns-3 c =
 
 pub check-spec : {M : Type 1} → statement M
 check-spec =
-    tie.close
-    (tie.spec
-    (λ c κs. search needs)
-    (λ c. search needs)
-    (λ c. search needs)
+    tie.close (tie.spec
+    (λ c κs. search needs) (λ c. search needs) (λ c. search needs)
     accepts-requires
     returns
     returns-2

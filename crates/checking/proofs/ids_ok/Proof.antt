@@ -1,11 +1,10 @@
 -- `checking::ids_ok` meets its contract. Assumes nothing.
-use mathlib.Core.Path.{sym, ap, _∙_, subst}
+use Rattle.format.specs.Kit.{sym, ap, _∙_, subst, needs}
 use Rattle.format.specs.Limits.{Power}
 use Rattle.section_check.specs.Reasons.{verdictOf}
 use Rattle.column.specs.Opened.{headIs}
 use Rattle.checking.specs.Tests.{holds}
 use Rattle.checking.proofs.Steps.{ids-judged}
-use borrow.Author.Needs.{needs}
 use Rattle.checking.proofs.ids_ok.Statement.{statement}
 use Rattle.checking.proofs.ids_ok.Tie as tie
 
@@ -30,12 +29,9 @@ returns-2 c =
 
 pub ids-ok-spec : {M : Type 1} → statement M
 ids-ok-spec =
-    tie.close
-    (tie.spec
-    (λ c κs. search needs)
-    (λ c κs. search needs)
+    tie.close (tie.spec
+    (λ c κs. search needs) (λ c κs. search needs)
     judge-requires
-    (λ c. search needs)
-    (λ c. search needs)
+    (λ c. search needs) (λ c. search needs)
     returns
     returns-2)

@@ -1,6 +1,5 @@
 -- `column::edition_in` meets its contract. Assumes nothing.
-use native.Mathlib.Omega.{arith}
-use borrow.Author.Tests.{eq-eqb, ne-eqb}
+use Rattle.format.specs.Kit.{arith, eq-eqb, ne-eqb}
 use Rattle.format.specs.Editions.{numberOf, editions, editionIn}
 use Rattle.column.proofs.edition_in.Statement.{statement}
 use Rattle.column.proofs.edition_in.Tie as tie

@@ -1,9 +1,5 @@
 -- `header_numbers::number_len` meets its contract. Each turn takes a byte off the number. Assumes nothing.
-use borrow.Author.Needs.{needs}
-use mathlib.Core.Path.{_≡_, ap}
-use Prim.Native.Nat.{_+_, _≤_}
-use native.Mathlib.Omega.{arith}
-use lib.ListN.{length}
+use Rattle.format.specs.Kit.{needs, _≡_, ap, _+_, _≤_, arith, length}
 use Rattle.format.specs.HeaderNumbers.{number}
 use Rattle.header_numbers.proofs.Written.{number-last, number-more, number-some, number-most}
 use Rattle.header_numbers.proofs.number_len.Statement.{statement}

@@ -1,13 +1,6 @@
 -- `header_numbers::put_number` meets its contract. What is left to write, written from here on, gives what the whole number gives.
 -- Assumes nothing.
-use borrow.Author.Needs.{needs}
-use mathlib.Core.Path.{_≡_, sym, ap, _∙_}
-use mathlib.Core.List.{List}
-use Prim.Native.Nat.{ℕ, suc, _+_, _≤_, _<_, _/_, _%_, _^_}
-use native.Mathlib.Numerals.{add-one}
-use native.Mathlib.Omega.{arith}
-use lib.ListN.{length, length-set, set}
-use lib.Seq.{sets}
+use Rattle.format.specs.Kit.{needs, _≡_, sym, ap, _∙_, List, ℕ, suc, _+_, _≤_, _<_, _/_, _%_, _^_, add-one, arith, length, length-set, set, sets}
 use Rattle.format.specs.HeaderNumbers.{number}
 use Rattle.header_numbers.proofs.Written.{number-last, number-more}
 use Rattle.header_numbers.proofs.put_number.Statement.{statement}
@@ -46,8 +39,7 @@ returns c =
 
 pub put-number-spec : {M : Type 1} → statement M
 put-number-spec =
-    tie.close
-    (tie.spec Inv-loop μ-loop
+    tie.close (tie.spec Inv-loop μ-loop
     (λ c. search needs) (λ c. search needs) (λ c. search needs)
     (λ c. omega (arith, longer c))
     (λ c. omega (arith, longer c))

@@ -1,9 +1,7 @@
 -- `header_numbers::quick_byte` meets its contract. Assumes nothing.
-use mathlib.Core.Path.{refl}
-use native.Mathlib.Omega.{arith}
+use Rattle.format.specs.Kit.{refl, arith, needs}
 use Rattle.header_numbers.proofs.Fast.{quick-none, quick-is}
 use Rattle.header_numbers.proofs.Steps.{small-first}
-use borrow.Author.Needs.{needs}
 use Rattle.header_numbers.proofs.quick_byte.Statement.{statement}
 use Rattle.header_numbers.proofs.quick_byte.Tie as tie
 
@@ -14,5 +12,4 @@ returns c =
 
 pub quick-byte-spec : {M : Type 1} → statement M
 quick-byte-spec =
-    tie.close
-    (tie.spec (λ c. search needs) (λ c κs. search needs) (λ c. search needs) (λ c. search needs) returns (λ c. quick-none refl))
+    tie.close (tie.spec (λ c. search needs) (λ c κs. search needs) (λ c. search needs) (λ c. search needs) returns (λ c. quick-none refl))

@@ -1,9 +1,5 @@
 -- `header_numbers::quick_more` meets its contract: byte after byte, what is read so far and the bytes from there on make the number. Assumes nothing.
-use mathlib.Core.Path.{_≡_, refl, _∙_}
-use Prim.Native.Nat.{ℕ, _+_, _-_, _*_}
-use native.Mathlib.Omega.{arith}
-use lib.ListN.{drop}
-use borrow.Author.Needs.{needs}
+use Rattle.format.specs.Kit.{_≡_, refl, _∙_, ℕ, _+_, _-_, _*_, arith, drop, needs}
 use Rattle.format.specs.HeaderNumbers.{readGroups, readNumber}
 use Rattle.header_numbers.specs.Read.{numberOf, numberOn}
 use Rattle.header_numbers.proofs.Fast.{quick-none, quick-is}
@@ -105,8 +101,7 @@ returns-9 c =
 
 pub quick-more-spec : {M : Type 1} → statement M
 quick-more-spec =
-    tie.close
-    (tie.spec
+    tie.close (tie.spec
     (λ c. search needs) (λ c κs. search needs) (λ c. search needs) (λ c. search needs)
     returns
     (λ c. search needs) (λ c. search needs) (λ c κs. search needs) (λ c. quick-none refl) (λ c. search needs) (λ c. search needs)

@@ -1,9 +1,7 @@
 -- `header_numbers::quick_number` meets its contract. Assumes nothing.
-use mathlib.Core.Path.{refl}
-use native.Mathlib.Omega.{arith}
+use Rattle.format.specs.Kit.{refl, arith, needs}
 use Rattle.header_numbers.proofs.Fast.{quick-is}
 use Rattle.header_numbers.proofs.Steps.{small-first}
-use borrow.Author.Needs.{needs}
 use Rattle.header_numbers.proofs.quick_number.Statement.{statement}
 use Rattle.header_numbers.proofs.quick_number.Tie as tie
 
@@ -14,8 +12,7 @@ returns c =
 
 pub quick-number-spec : {M : Type 1} → statement M
 quick-number-spec =
-    tie.close
-    (tie.spec
+    tie.close (tie.spec
     (λ c. search needs) (λ c κs. search needs) (λ c. search needs) (λ c. search needs)
     returns
     (λ c κs. search needs) (λ c. search needs))

@@ -1,7 +1,5 @@
 -- `header_numbers::read_number` meets its contract: a number's first byte, which may be its last. Assumes nothing.
-use borrow.Author.Needs.{needs}
-use mathlib.Core.Path.{sym, _∙_}
-use native.Mathlib.Omega.{arith}
+use Rattle.format.specs.Kit.{needs, sym, _∙_, arith}
 use Rattle.header_numbers.proofs.Steps.{none-first, small-first, more-first}
 use Rattle.header_numbers.proofs.read_number.Statement.{statement}
 use Rattle.header_numbers.proofs.read_number.Tie as tie
@@ -30,5 +28,4 @@ returns-3 c =
 
 pub read-number-spec : {M : Type 1} → statement M
 read-number-spec =
-    tie.close
-    (tie.spec returns (λ c. search needs) (λ c κs. search needs) (λ c. search needs) returns-2 (λ c. search needs) read-rest-requires returns-3)
+    tie.close (tie.spec returns (λ c. search needs) (λ c κs. search needs) (λ c. search needs) returns-2 (λ c. search needs) read-rest-requires returns-3)

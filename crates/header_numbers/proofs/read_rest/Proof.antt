@@ -1,11 +1,6 @@
 -- `header_numbers::read_rest` meets its contract. The invariant: what the bytes from here on make of the sum so far is what the function
 -- owes. Assumes nothing.
-use borrow.Author.Needs.{needs}
-use mathlib.Core.Path.{_≡_, refl, sym, _∙_}
-use Prim.Native.Nat.{ℕ, _+_, _-_, _*_, _^_, _≤_, _<_}
-use native.Mathlib.Nat.{mul-le-mul-left}
-use native.Mathlib.Omega.{arith}
-use lib.ListN.{length, drop}
+use Rattle.format.specs.Kit.{needs, _≡_, refl, sym, _∙_, ℕ, _+_, _-_, _*_, _^_, _≤_, _<_, mul-le-mul-left, arith, length, drop}
 use Rattle.format.specs.HeaderNumbers.{readGroups}
 use Rattle.header_numbers.specs.Read.{numberOn}
 use Rattle.header_numbers.proofs.Steps.{Scaled, scaled-end, scaled-step, scaled-le, at-end, tenth, tenth-bad, last-bad, last, one-more}
@@ -98,8 +93,7 @@ returns-5 c =
 
 pub read-rest-spec : {M : Type 1} → statement M
 read-rest-spec =
-    tie.close
-    (tie.spec Inv-loop μ-loop
+    tie.close (tie.spec Inv-loop μ-loop
     (λ c. (search needs, refl, refl))
     (λ c. search needs) (λ c κs. search needs)
     (λ c. omega (arith, tenth-scale (c .before .before) (c .before .if1 .taken)))

@@ -1,7 +1,5 @@
 -- `in_block::bit_of` meets its contract. Assumes nothing.
-use Prim.Native.Nat.{_/_, _^_}
-use lib.Bits.{and-mask}
-use borrow.Author.Needs.{needs}
+use Rattle.format.specs.Kit.{_/_, _^_, and-mask, needs}
 use Rattle.in_block.proofs.bit_of.Statement.{statement}
 use Rattle.in_block.proofs.bit_of.Tie as tie
 

@@ -1,10 +1,7 @@
 -- `in_block::dense` meets its contract. Assumes nothing.
-use mathlib.Core.Path.{_≡_, sym, ap₂, _∙_}
-use Prim.Native.Nat.{ℕ, _+_, _-_, _/_, _%_, _^_}
-use native.Mathlib.Omega.{arith}
+use Rattle.format.specs.Kit.{_≡_, sym, ap₂, _∙_, ℕ, _+_, _-_, _/_, _%_, _^_, arith, needs}
 use Rattle.format.specs.LookUp.{inside, strideLong}
 use Rattle.in_block.proofs.Bitmap.{longOf, innerAt, dense-clear, dense-set, dense-broken}
-use borrow.Author.Needs.{needs}
 use Rattle.in_block.proofs.dense.Statement.{statement}
 use Rattle.in_block.proofs.dense.Tie as tie
 
@@ -37,24 +34,10 @@ returns-3 c =
 
 pub dense-spec : {M : Type 1} → statement M
 dense-spec =
-    tie.close
-    (tie.spec
-    (λ c κs. search needs)
-    (λ c. search needs)
-    (λ c. search needs)
-    (λ c. search needs)
-    (λ c κs. search needs)
-    (λ c κs. search needs)
+    tie.close (tie.spec
+    (λ c κs. search needs) (λ c. search needs) (λ c. search needs) (λ c. search needs) (λ c κs. search needs) (λ c κs. search needs)
     (λ c. (sym (dense-clear _ _ _ _ _ (sym (bit-is (c .before)) ∙ c .if1 .taken)), tt))
-    (λ c κs. search needs)
-    (λ c. search needs)
-    (λ c κs. search needs)
-    (λ c κs. search needs)
-    (λ c. search needs)
-    (λ c κs. search needs)
-    (λ c. search needs)
-    (λ c κs. search needs)
-    (λ c. search needs)
-    (λ c κs. search needs)
+    (λ c κs. search needs) (λ c. search needs) (λ c κs. search needs) (λ c κs. search needs) (λ c. search needs) (λ c κs. search needs)
+    (λ c. search needs) (λ c κs. search needs) (λ c. search needs) (λ c κs. search needs)
     returns-2
     returns-3)

@@ -1,8 +1,6 @@
 -- `in_block::entry_at` meets its contract. Assumes nothing.
-use Prim.Native.Nat.{_+_}
-use native.Mathlib.Omega.{arith}
+use Rattle.format.specs.Kit.{_+_, arith, needs}
 use Rattle.numbers.proofs.Shorts.{short-is}
-use borrow.Author.Needs.{needs}
 use Rattle.in_block.proofs.entry_at.Statement.{statement}
 use Rattle.in_block.proofs.entry_at.Tie as tie
 
@@ -12,12 +10,10 @@ add-result-2 c =
 
 pub entry-at-spec : {M : Type 1} → statement M
 entry-at-spec =
-    tie.close
-    (tie.spec
+    tie.close (tie.spec
     (λ c. search needs)
     (λ c. omega (arith, c .shared-slice-known .given (c .before .args .i)))
-    (λ c. search needs)
-    (λ c. search needs)
+    (λ c. search needs) (λ c. search needs)
     (λ c. omega (arith, c .shared-slice-known2 .given (c .before .before .args .i + 1)))
     (λ c. omega (arith, c .shared-slice-known2 .given (c .before .before .args .i + 1)))
     add-result-2

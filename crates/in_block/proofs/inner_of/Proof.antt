@@ -1,14 +1,10 @@
 -- `in_block::inner_of` meets its contract. Assumes nothing.
-use mathlib.Core.Path.{_≡_, sym, ap, _∙_}
-use Prim.Native.Nat.{ℕ, _+_, _*_}
-use lib.ListN.{drop}
-use native.Mathlib.Omega.{arith}
+use Rattle.format.specs.Kit.{_≡_, sym, ap, _∙_, ℕ, _+_, _*_, drop, arith, needs}
 use Rattle.format.specs.Ids.{all, kindOf, rankBytes, dataBytes}
 use Rattle.format.specs.IdsRead.{shorts}
 use Rattle.format.specs.LookUp.{inside, scan, scanned, inSparse, denseAt, placeAt}
 use Rattle.blocks.specs.Kinds.{kindIs}
 use Rattle.in_block.proofs.ByKind.{of-sparse, of-dense, of-all, all-count}
-use borrow.Author.Needs.{needs}
 use Rattle.in_block.proofs.inner_of.Statement.{statement}
 use Rattle.in_block.proofs.inner_of.Tie as tie
 
@@ -34,15 +30,12 @@ returns-3 c =
 
 pub inner-of-spec : {M : Type 1} → statement M
 inner-of-spec =
-    tie.close
-    (tie.spec
-    (λ c. search needs)
-    (λ c κs. search needs)
+    tie.close (tie.spec
+    (λ c. search needs) (λ c κs. search needs)
     (λ c κs. omega (arith, sparse-is (c .before) .0))
     (λ c. search needs)
     (λ c κs. let a = c .before .before .before in (a .pre .0, a .pre .1, omega (arith, dense-is c .0)))
-    (λ c. search needs)
-    (λ c κs. search needs)
+    (λ c. search needs) (λ c κs. search needs)
     (λ c. let f = sparse-is (c .before .before) .1 in (cc, c .sparse .ensures .1))
     (λ c. (c .dense .ensures .0 ∙ sym (dense-is (c .before) .1), c .dense .ensures .1))
     returns-3)

@@ -1,11 +1,5 @@
 -- `in_block::ones_under` meets its contract. Assumes nothing.
-use mathlib.Core.Path.{ap, _∙_}
-use Prim.Native.Nat.{ℕ, _-_}
-use native.Mathlib.Omega.{arith}
-use lib.Bits.{bitAnd, and-mask}
-use lib.Count.{onesIn}
-use lib.Pow.{pow-pos}
-use borrow.Author.Needs.{needs}
+use Rattle.format.specs.Kit.{ap, _∙_, ℕ, _-_, arith, bitAnd, and-mask, onesIn, pow-pos, needs}
 use Rattle.in_block.proofs.ones_under.Statement.{statement}
 use Rattle.in_block.proofs.ones_under.Tie as tie
 

@@ -1,12 +1,8 @@
 -- `in_block::skipped` meets its contract. Invariant: the scan from entry i on gives what the whole scan gives. Assumes nothing.
-use mathlib.Core.Path.{_≡_, sym, _∙_}
-use Prim.Native.Nat.{_-_, _≤_}
-use native.Mathlib.Omega.{arith}
-use lib.ListN.{drop}
+use Rattle.format.specs.Kit.{_≡_, sym, _∙_, _-_, _≤_, arith, drop, needs}
 use Rattle.format.specs.IdsRead.{shorts}
 use Rattle.format.specs.LookUp.{scan}
 use Rattle.in_block.proofs.Scan.{scanLeft, scan-begin, scan-skip}
-use borrow.Author.Needs.{needs}
 use Rattle.in_block.proofs.skipped.Statement.{statement}
 use Rattle.in_block.proofs.skipped.Tie as tie
 
@@ -24,17 +20,10 @@ loop-again c =
 
 pub skipped-spec : {M : Type 1} → statement M
 skipped-spec =
-    tie.close
-    (tie.spec
-    Inv-loop
-    μ-loop
+    tie.close (tie.spec Inv-loop μ-loop
     (λ c. let a = c .before .args in (sym (scan-begin (a .s .now) (a .at) (a .count) (a .r)), omega arith))
-    (λ c. search needs)
-    (λ c. search needs)
-    (λ c. search needs)
-    (λ c κs. search needs)
+    (λ c. search needs) (λ c. search needs) (λ c. search needs) (λ c κs. search needs)
     (λ c. c .before .before .before .loop .inv)
-    (λ c. search needs)
-    (λ c. search needs)
+    (λ c. search needs) (λ c. search needs)
     loop-again
     (λ c. c .before .loop .inv))

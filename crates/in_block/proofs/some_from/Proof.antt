@@ -1,14 +1,8 @@
 -- `in_block::some_from` meets its contract. Assumes nothing.
-use mathlib.Core.Path.{_≡_, sym, _∙_}
-use mathlib.Core.Bool.{false}
-use Prim.Native.Nat.{ℕ, _+_, _-_, _*_, _≤_, _<_}
-use native.Mathlib.Omega.{arith}
-use lib.Dec.{leb}
-use borrow.Author.Tests.{leb-false}
+use Rattle.format.specs.Kit.{_≡_, sym, _∙_, false, ℕ, _+_, _-_, _*_, _≤_, _<_, arith, leb, leb-false, needs}
 use Rattle.format.specs.Bytes.{lowAt}
 use Rattle.format.proofs.Cases.{below-or}
 use Rattle.format.proofs.Tests.{neither}
-use borrow.Author.Needs.{needs}
 use Rattle.in_block.proofs.some_from.Statement.{statement}
 use Rattle.in_block.proofs.some_from.Tie as tie
 
@@ -33,16 +27,8 @@ loop-again c =
 
 pub some-from-spec : {M : Type 1} → statement M
 some-from-spec =
-    tie.close
-    (tie.spec
-    Inv-loop
-    μ-loop
+    tie.close (tie.spec Inv-loop μ-loop
     (λ c. (omega arith, λ q j h. absurd (omega arith)))
-    (λ c. search needs)
-    (λ c. search needs)
-    (λ c κs. search needs)
-    (λ c κs. search needs)
-    (λ c. search needs)
-    (λ c. search needs)
+    (λ c. search needs) (λ c. search needs) (λ c κs. search needs) (λ c κs. search needs) (λ c. search needs) (λ c. search needs)
     loop-again
     (λ c. λ q j h. c .before .loop .inv .1 q j (omega arith)))

@@ -1,12 +1,8 @@
 -- `in_block::sparse` meets its contract. Invariant: the scan from entry i on gives what the whole scan gives. Assumes nothing.
-use mathlib.Core.Path.{_≡_, sym, ap, _∙_}
-use Prim.Native.Nat.{_-_, _≤_}
-use native.Mathlib.Omega.{arith}
-use lib.ListN.{drop}
+use Rattle.format.specs.Kit.{_≡_, sym, ap, _∙_, _-_, _≤_, arith, drop, needs}
 use Rattle.format.specs.IdsRead.{shorts}
 use Rattle.format.specs.LookUp.{scan, inSparse, inside}
 use Rattle.in_block.proofs.Scan.{scanLeft, scan-on, scan-found, scan-past, scan-end}
-use borrow.Author.Needs.{needs}
 use Rattle.in_block.proofs.sparse.Statement.{statement}
 use Rattle.in_block.proofs.sparse.Tie as tie
 
@@ -48,20 +44,12 @@ returns-3 c =
 
 pub sparse-spec : {M : Type 1} → statement M
 sparse-spec =
-    tie.close
-    (tie.spec
-    Inv-loop
-    μ-loop
-    (λ c. search needs)
-    (λ c κs. search needs)
+    tie.close (tie.spec Inv-loop μ-loop
+    (λ c. search needs) (λ c κs. search needs)
     (λ c. c .skipped .ensures)
-    (λ c. search needs)
-    (λ c. search needs)
-    (λ c κs. search needs)
-    (λ c κs. search needs)
+    (λ c. search needs) (λ c. search needs) (λ c κs. search needs) (λ c κs. search needs)
     returns
     returns-2
-    (λ c. search needs)
-    (λ c. search needs)
+    (λ c. search needs) (λ c. search needs)
     loop-again
     returns-3)

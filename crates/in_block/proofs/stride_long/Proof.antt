@@ -1,10 +1,7 @@
 -- `in_block::stride_long` meets its contract. Assumes nothing.
-use mathlib.Core.Path.{_≡_, sym, ap, _∙_}
-use Prim.Native.Nat.{ℕ, _*_, _/_, _^_, _≤_}
+use Rattle.format.specs.Kit.{_≡_, sym, ap, _∙_, ℕ, _*_, _/_, _^_, _≤_, arith, needs}
 use Rattle.format.specs.LookUp.{strideLong}
-use native.Mathlib.Omega.{arith}
 use Rattle.in_block.proofs.Strides.{long-none, long-some, long-in}
-use borrow.Author.Needs.{needs}
 use Rattle.in_block.proofs.stride_long.Statement.{statement}
 use Rattle.in_block.proofs.stride_long.Tie as tie
 
@@ -20,8 +17,7 @@ first c =
 
 pub stride-long-spec : {M : Type 1} → statement M
 stride-long-spec =
-    tie.close
-    (tie.spec
+    tie.close (tie.spec
     (λ c. (sym (long-none _ _ (c .if1 .taken)), omega arith))
     (λ c. search needs)
     (λ c κs. (omega (arith, c .before .pre .0 .least (c .if1 .left)), c .before .pre .0 .most))

@@ -1,10 +1,7 @@
 -- `in_block::stride_rank` meets its contract. Assumes nothing.
-use mathlib.Core.Path.{sym, _∙_}
-use Prim.Native.Nat.{_+_, _*_, _/_, _^_, _≤_}
-use native.Mathlib.Omega.{arith}
+use Rattle.format.specs.Kit.{sym, _∙_, _+_, _*_, _/_, _^_, _≤_, arith, needs}
 use Rattle.format.specs.Ids.{rankBytes}
 use Rattle.in_block.proofs.Strides.{rank-none, rank-some, entry-in}
-use borrow.Author.Needs.{needs}
 use Rattle.in_block.proofs.stride_rank.Statement.{statement}
 use Rattle.in_block.proofs.stride_rank.Tie as tie
 
@@ -14,8 +11,7 @@ entry c = let a = c .before .before in entry-in (a .args .p) (a .args .r) (a .pr
 
 pub stride-rank-spec : {M : Type 1} → statement M
 stride-rank-spec =
-    tie.close
-    (tie.spec
+    tie.close (tie.spec
     (λ c. (sym (rank-none _ _ _ _ (c .if1 .taken)), omega arith))
     (λ c. search needs)
     (λ c. omega (arith, entry c))

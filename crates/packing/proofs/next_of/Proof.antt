@@ -1,12 +1,8 @@
 -- `packing::next_of` meets its contract. Assumes nothing.
-use mathlib.Core.Path.{_≡_, ap, _∙_}
-use Prim.Native.Nat.{ℕ, _+_, _*_}
-use native.Mathlib.Omega.{arith}
-use lib.ListN.{length}
+use Rattle.format.specs.Kit.{_≡_, ap, _∙_, ℕ, _+_, _*_, arith, length, needs}
 use Rattle.format.specs.Bits.{bitAt, gather, fetched}
 use Rattle.format.proofs.Bits.{within}
 use Rattle.packing.proofs.Join.{window-inside}
-use borrow.Author.Needs.{needs}
 use Rattle.packing.proofs.next_of.Statement.{statement}
 use Rattle.packing.proofs.next_of.Tie as tie
 

@@ -1,5 +1,5 @@
 -- `plain_check::equal_ok` meets its contract. Assumes nothing.
-use borrow.Author.Tests.{ne-eqb, eq-eqb, le-leb, lt-leb}
+use Rattle.format.specs.Kit.{ne-eqb, eq-eqb, le-leb, lt-leb}
 use Rattle.plain_check.specs.ValuesOk.{equalOk}
 use Rattle.plain_check.proofs.equal_ok.Statement.{statement}
 use Rattle.plain_check.proofs.equal_ok.Tie as tie

@@ -1,5 +1,5 @@
 -- `plain_check::exact` meets its contract. Assumes nothing.
-use borrow.Author.Tests.{ne-eqb, eq-eqb, le-leb, lt-leb}
+use Rattle.format.specs.Kit.{ne-eqb, eq-eqb, le-leb, lt-leb}
 use Rattle.plain_check.proofs.exact.Statement.{statement}
 use Rattle.plain_check.proofs.exact.Tie as tie
 

@@ -1,8 +1,7 @@
 -- `plain_check::fits` meets its contract. Assumes nothing.
-use mathlib.Core.Path.{sym, ap, _∙_}
+use Rattle.format.specs.Kit.{sym, ap, _∙_, needs}
 use Rattle.format.specs.Replies.{fetchedOf}
 use Rattle.plain_check.proofs.Turns.{kept-in, kept-out}
-use borrow.Author.Needs.{needs}
 use Rattle.plain_check.proofs.fits.Statement.{statement}
 use Rattle.plain_check.proofs.fits.Tie as tie
 

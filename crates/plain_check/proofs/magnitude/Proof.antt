@@ -1,12 +1,8 @@
 -- `plain_check::magnitude` meets its contract. Assumes nothing.
-use mathlib.Core.Path.{_≡_}
-use Prim.Native.Nat.{ℕ, _/_, _%_, _+_}
-use native.Mathlib.Omega.{arith}
-use lib.IntN.{natAbs}
+use Rattle.format.specs.Kit.{_≡_, ℕ, _/_, _%_, _+_, arith, natAbs, needs}
 use Rattle.format.specs.HeaderNumbers.{unzigzag}
 use Rattle.format.proofs.Cases.{equal-or}
 use Rattle.format.proofs.Fits.{unzigzag-even, unzigzag-odd}
-use borrow.Author.Needs.{needs}
 use Rattle.plain_check.proofs.magnitude.Statement.{statement}
 use Rattle.plain_check.proofs.magnitude.Tie as tie
 

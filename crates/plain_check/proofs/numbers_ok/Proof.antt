@@ -1,14 +1,6 @@
 -- `plain_check::numbers_ok` meets its contract. The loop's invariant holds since a turn makes of the least, the greatest and the divisor
 -- so far, with number i, what the definition makes of them, and goes on by one number's bits. Assumes nothing.
-use mathlib.Core.Path.{sym, ap, _∙_}
-use mathlib.Core.Bool.{Bool, _&&_}
-use Prim.Native.Nat.{_+_, _-_, _/_, _^_, _<_}
-use lib.Bits.{bitAnd}
-use native.Mathlib.Omega.{arith}
-use lib.Pow.{pow-mono, pow-pos}
-use borrow.Author.Needs.{needs}
-use borrow.Author.Tests.{not-true, not-false}
-use lib.ListN.{length}
+use Rattle.format.specs.Kit.{sym, ap, _∙_, Bool, _&&_, _+_, _-_, _/_, _^_, _<_, bitAnd, arith, pow-mono, pow-pos, needs, not-true, not-false, length}
 use Rattle.format.specs.Values.{fits64}
 use Rattle.format.specs.Replies.{fieldsOf}
 use Rattle.plain_values.specs.Held.{valueFrom}
@@ -121,10 +113,7 @@ returns-3 c =
 
 pub numbers-ok-spec : {M : Type 1} → statement M
 numbers-ok-spec =
-    tie.close
-    (tie.spec
-    Inv-loop
-    μ-loop
+    tie.close (tie.spec Inv-loop μ-loop
     (λ c. search needs)
     pow2-requires
     sub-most
@@ -135,8 +124,7 @@ numbers-ok-spec =
     next-of-requires
     add-next
     add-at
-    (λ c κs. search needs)
-    (λ c κs. search needs)
+    (λ c κs. search needs) (λ c κs. search needs)
     common-requires
     renewed-requires
     add-i

@@ -1,6 +1,5 @@
 -- `plain_check::settled` meets its contract. Assumes nothing.
-use borrow.Author.Tests.{not-true, not-false}
-use borrow.Author.Needs.{needs}
+use Rattle.format.specs.Kit.{not-true, not-false, needs}
 use Rattle.plain_check.proofs.settled.Statement.{statement}
 use Rattle.plain_check.proofs.settled.Tie as tie
 

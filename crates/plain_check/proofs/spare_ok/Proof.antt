@@ -1,12 +1,7 @@
 -- `plain_check::spare_ok` meets its contract. Assumes nothing.
-use mathlib.Core.Path.{sym}
-use Prim.Native.Nat.{_-_}
-use native.Mathlib.Omega.{arith}
-use lib.ListN.{length}
-use lib.Pow.{pow-pos}
+use Rattle.format.specs.Kit.{sym, _-_, arith, length, pow-pos, needs}
 use Rattle.plain_check.specs.ValuesOk.{spareOk}
 use Rattle.plain_check.proofs.Spare.{spare-none}
-use borrow.Author.Needs.{needs}
 use Rattle.plain_check.proofs.spare_ok.Statement.{statement}
 use Rattle.plain_check.proofs.spare_ok.Tie as tie
 
@@ -25,5 +20,4 @@ returns-2 c = rw (c .pow2 .ensures)
 
 pub spare-ok-spec : {M : Type 1} → statement M
 spare-ok-spec =
-    tie.close
-    (tie.spec returns (λ c. search needs) (λ c. search needs) cast-last (λ c κs. search needs) rem-result returns-2)
+    tie.close (tie.spec returns (λ c. search needs) (λ c. search needs) cast-last (λ c κs. search needs) rem-result returns-2)

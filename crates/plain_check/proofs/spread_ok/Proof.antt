@@ -1,18 +1,11 @@
 -- `plain_check::spread_ok` meets its contract. Assumes nothing.
-use mathlib.Core.Path.{_≡_, sym, _∙_}
-use mathlib.Core.Bool.{_&&_}
-use Prim.Native.Nat.{_-_, _*_, _/_, _^_, _≤_}
-use native.Mathlib.Nat.{mul-le-mul}
-use native.Mathlib.Omega.{arith}
-use lib.ListN.{length}
-use borrow.Author.Tests.{ne-eqb, not-true, not-false}
+use Rattle.format.specs.Kit.{_≡_, sym, _∙_, _&&_, _-_, _*_, _/_, _^_, _≤_, mul-le-mul, arith, length, ne-eqb, not-true, not-false, needs}
 use Rattle.format.specs.Limits.{maxCount, maxWidth}
 use Rattle.format.specs.Bits.{unpacked}
 use Rattle.format.specs.Replies.{fieldsOf}
 use Rattle.plain_values.proofs.Facts.{Rules, rules-kept}
 use Rattle.plain_check.specs.ValuesOk.{numbersOk, spreadOk}
 use Rattle.plain_check.proofs.Turns.{spread-is}
-use borrow.Author.Needs.{needs}
 use Rattle.plain_check.proofs.spread_ok.Statement.{statement}
 use Rattle.plain_check.proofs.spread_ok.Tie as tie
 
@@ -57,8 +50,7 @@ returns-3 c =
 
 pub spread-ok-spec : {M : Type 1} → statement M
 spread-ok-spec =
-    tie.close
-    (tie.spec
+    tie.close (tie.spec
     (λ c κs. search needs)
     (λ c. rules (c .before .before .before) .positive)
     returns

@@ -1,7 +1,6 @@
 -- `plain_check::values_ok` meets its contract. Assumes nothing.
-use borrow.Author.Tests.{eq-eqb, ne-eqb}
+use Rattle.format.specs.Kit.{eq-eqb, ne-eqb, needs}
 use Rattle.plain_check.specs.ValuesOk.{valuesOk}
-use borrow.Author.Needs.{needs}
 use Rattle.plain_check.proofs.values_ok.Statement.{statement}
 use Rattle.plain_check.proofs.values_ok.Tie as tie
 

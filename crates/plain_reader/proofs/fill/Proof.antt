@@ -1,14 +1,7 @@
 -- `plain_reader::fill` meets its contract. The loop's invariant holds since number i stands at the place that is kept, and the place then
 -- moves by one number's bits. Assumes nothing.
-use mathlib.Core.Path.{_≡_, refl, sym, ap, subst, _∙_}
-use mathlib.Core.List.{List, _∷_, _++_}
-use Prim.Native.Nat.{ℕ, _+_, _-_, _*_, _%_, _^_, _<_, _≤_}
-use native.Mathlib.Nat.{mul-le-mul-right}
-use native.Mathlib.Omega.{arith}
-use borrow.Author.Needs.{needs}
-use lib.Bits.{bitAnd, and-mask}
-use lib.IntN.{ℤ}
-use lib.ListN.{length, drop}
+use Rattle.format.specs.Kit.{_≡_, refl, sym, ap, subst, _∙_, List, _∷_, _++_, ℕ, _+_, _-_, _*_, _%_, _^_, _<_, _≤_, mul-le-mul-right, arith, needs}
+use Rattle.format.specs.Kit.{bitAnd, and-mask, ℤ, length, drop}
 use mir.Syntax.{w64}
 use mir.Val.{toZ, ofZ}
 use mir.Facts.{toZ-ofZ}
@@ -142,10 +135,7 @@ returns c vs e =
 
 pub fill-spec : {M : Type 1} → statement M
 fill-spec =
-    tie.close
-    (tie.spec
-    Inv-loop
-    μ-loop
+    tie.close (tie.spec Inv-loop μ-loop
     (λ c κs. search needs)
     (λ c κs. let s = c .before .before .before in (s .pre .0, s .pre .1, fit s))
     byte-of-requires

@@ -1,11 +1,6 @@
 -- `plain_reader::fill_fours` meets its contract. The loop's invariant holds since the four numbers of a window at number i's place are the
 -- next ones, and the place then moves by four numbers' bits. Assumes nothing.
-use mathlib.Core.Path.{_≡_, refl, sym}
-use Prim.Native.Nat.{ℕ, _+_, _-_, _*_, _%_, _^_, _≤_, _<_}
-use native.Mathlib.Nat.{zero-mul}
-use native.Mathlib.Omega.{arith}
-use lib.Bits.{bitAnd, and-mask}
-use lib.ListN.{length, drop}
+use Rattle.format.specs.Kit.{_≡_, refl, sym, ℕ, _+_, _-_, _*_, _%_, _^_, _≤_, _<_, zero-mul, arith, bitAnd, and-mask, length, drop, needs}
 use Rattle.format.specs.Bits.{unpacked}
 use Rattle.packing.proofs.Join.{window-inside, place-on}
 use Rattle.format.specs.Stores.{Fill}
@@ -14,7 +9,6 @@ use Rattle.plain_values.specs.Held.{valuesFrom}
 use Rattle.plain_values.proofs.Facts.{rules-kept}
 use Rattle.plain_reader.proofs.Each.{Four, four-at, four-more}
 use Rattle.format.proofs.Stores.{begun}
-use borrow.Author.Needs.{needs}
 use Rattle.plain_reader.proofs.fill_fours.Statement.{statement}
 use Rattle.plain_reader.proofs.fill_fours.Tie as tie
 
@@ -80,10 +74,7 @@ loop-again c =
 
 pub fill-fours-spec : {M : Type 1} → statement M
 fill-fours-spec =
-    tie.close
-    (tie.spec
-    Inv-loop
-    μ-loop
+    tie.close (tie.spec Inv-loop μ-loop
     (λ c κs. search needs)
     (λ c. (search needs, begun _ _ _ _ refl))
     (λ c. (search needs, begun _ _ _ _ refl))
@@ -91,9 +82,7 @@ fill-fours-spec =
     (λ c. search needs)
     (λ c κs. (inside c, c .before .loop .inv .2))
     put-four-requires
-    (λ c. search needs)
-    (λ c. search needs)
-    (λ c. search needs)
+    (λ c. search needs) (λ c. search needs) (λ c. search needs)
     add-at
     (λ c. search needs)
     loop-again

@@ -1,6 +1,6 @@
 -- `plain_reader::put_four` meets its contract. Assumes nothing.
 use Rattle.plain_reader.proofs.Each.{four-stored}
-use borrow.Author.Needs.{needs}
+use Rattle.format.specs.Kit.{needs}
 use Rattle.plain_reader.proofs.put_four.Statement.{statement}
 use Rattle.plain_reader.proofs.put_four.Tie as tie
 
@@ -15,16 +15,7 @@ returns c =
 
 pub put-four-spec : {M : Type 1} → statement M
 put-four-spec =
-    tie.close
-    (tie.spec
-    (λ c κs. search needs)
-    (λ c. search needs)
-    (λ c κs. search needs)
-    (λ c. search needs)
-    (λ c. search needs)
-    (λ c κs. search needs)
-    (λ c. search needs)
-    (λ c. search needs)
-    (λ c κs. search needs)
-    (λ c. search needs)
+    tie.close (tie.spec
+    (λ c κs. search needs) (λ c. search needs) (λ c κs. search needs) (λ c. search needs) (λ c. search needs) (λ c κs. search needs)
+    (λ c. search needs) (λ c. search needs) (λ c κs. search needs) (λ c. search needs)
     returns)

@@ -1,12 +1,8 @@
 -- `plain_reader::put_part` meets its contract. Assumes nothing.
-use mathlib.Core.Path.{sym, ap, subst, _∙_}
-use Prim.Native.Nat.{ℕ, _+_, _*_, _^_, _<_}
-use lib.IntN.{ℤ}
-use lib.ListN.{set}
+use Rattle.format.specs.Kit.{sym, ap, subst, _∙_, ℕ, _+_, _*_, _^_, _<_, ℤ, set, needs}
 use mir.Syntax.{w64}
 use mir.Facts.{toZ-ofZ}
 use Rattle.signed.specs.Sign.{unbiased}
-use borrow.Author.Needs.{needs}
 use Rattle.plain_reader.proofs.put_part.Statement.{statement}
 use Rattle.plain_reader.proofs.put_part.Tie as tie
 

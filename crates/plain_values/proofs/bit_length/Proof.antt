@@ -1,6 +1,5 @@
 -- `plain_values::bit_length` meets its contract. Assumes nothing.
-use native.Mathlib.Omega.{arith}
-use lib.Count.{leading-le}
+use Rattle.format.specs.Kit.{arith, leading-le}
 use Rattle.plain_values.proofs.Width.{leading-width}
 use Rattle.plain_values.proofs.bit_length.Statement.{statement}
 use Rattle.plain_values.proofs.bit_length.Tie as tie

@@ -1,12 +1,9 @@
 -- `plain_values::length` meets its contract. Assumes nothing.
-use mathlib.Core.Path.{sym, ap₂, _∙_}
-use native.Mathlib.Omega.{arith}
-use Prim.Native.Nat.{ℕ}
+use Rattle.format.specs.Kit.{sym, ap₂, _∙_, arith, ℕ, needs}
 use Rattle.format.specs.Bits.{packedBytes}
 use Rattle.format.specs.Replies.{fieldsOf}
 use Rattle.plain_values.proofs.Facts.{FieldsOf, fields-are}
 use Rattle.plain_values.proofs.Store.{length-section}
-use borrow.Author.Needs.{needs}
 use Rattle.plain_values.proofs.length.Statement.{statement}
 use Rattle.plain_values.proofs.length.Tie as tie
 

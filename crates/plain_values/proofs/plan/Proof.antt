@@ -1,8 +1,7 @@
 -- `plain_values::plan` meets its contract. Assumes nothing.
-use mathlib.Core.Path.{sym}
+use Rattle.format.specs.Kit.{sym, needs}
 use Rattle.format.specs.Values.{width}
 use Rattle.format.proofs.Editions.{plain-fields}
-use borrow.Author.Needs.{needs}
 use Rattle.plain_values.proofs.plan.Statement.{statement}
 use Rattle.plain_values.proofs.plan.Tie as tie
 

@@ -1,11 +1,7 @@
 -- `plain_values::put` meets its contract. The loop's invariant, that the first i stored numbers are written or wait, holds since a turn
 -- pushes the difference from the smallest value over the divisor, which is number i.
 -- Assumes nothing.
-use mathlib.Core.Path.{_≡_, ap, subst, _∙_}
-use Prim.Native.Nat.{ℕ, _*_, _-_, _^_, _≤_, _<_}
-use native.Mathlib.Omega.{arith}
-use lib.IntN.{ℤ, pos}
-use lib.ListN.{length, getD}
+use Rattle.format.specs.Kit.{_≡_, ap, subst, _∙_, ℕ, _*_, _-_, _^_, _≤_, _<_, arith, ℤ, pos, length, getD, needs}
 use Rattle.format.specs.HeaderNumbers.{unzigzag}
 use Rattle.format.specs.Values.{smallest, stored}
 use Rattle.format.specs.Replies.{fieldsOf}
@@ -17,7 +13,6 @@ use Rattle.signed.specs.Sign.{biased}
 use Rattle.signed.proofs.Signs.{read-back}
 use Rattle.plain_values.proofs.Facts.{FieldsOf, fields-are}
 use Rattle.plain_values.proofs.Store.{low-le, stored-at, stored-small, length-section, section-is}
-use borrow.Author.Needs.{needs}
 use Rattle.plain_values.proofs.put.Statement.{statement}
 use Rattle.plain_values.proofs.put.Tie as tie
 
@@ -128,21 +123,14 @@ returns c =
 
 pub put-spec : {M : Type 1} → statement M
 put-spec =
-    tie.close
-    (tie.spec
-    Inv-loop
-    μ-loop
-    (λ c κs. search needs)
-    (λ c κs. search needs)
+    tie.close (tie.spec Inv-loop μ-loop
+    (λ c κs. search needs) (λ c κs. search needs)
     (λ c. streamed-none _ _ _)
-    (λ c. search needs)
-    (λ c. search needs)
-    (λ c κs. search needs)
+    (λ c. search needs) (λ c. search needs) (λ c κs. search needs)
     sub-quotient
     quotient-requires
     push-requires
-    (λ c. search needs)
-    (λ c. search needs)
+    (λ c. search needs) (λ c. search needs)
     loop-again
     finish-requires
     same-length

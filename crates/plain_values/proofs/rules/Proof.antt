@@ -1,12 +1,8 @@
 -- `plain_values::rules` meets its contract. Assumes nothing.
-use mathlib.Core.Path.{sym, ap, _∙_}
-use mathlib.Core.Bool.{and-false}
-use lib.Dec.{eqb}
-use borrow.Author.Tests.{le-leb, lt-leb}
+use Rattle.format.specs.Kit.{sym, ap, _∙_, and-false, eqb, le-leb, lt-leb, needs}
 use Rattle.format.specs.Limits.{maxWidth}
 use Rattle.format.specs.Replies.{fieldsOf}
 use Rattle.format.proofs.Editions.{plain-rules}
-use borrow.Author.Needs.{needs}
 use Rattle.plain_values.proofs.rules.Statement.{statement}
 use Rattle.plain_values.proofs.rules.Tie as tie
 

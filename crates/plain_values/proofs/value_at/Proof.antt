@@ -1,7 +1,5 @@
 -- `plain_values::value_at` meets its contract. Assumes nothing.
-use mathlib.Core.Path.{sym, ap, _∙_}
-use Prim.Native.Nat.{ℕ}
-use lib.ListN.{length}
+use Rattle.format.specs.Kit.{sym, ap, _∙_, ℕ, length}
 use Rattle.format.specs.HeaderNumbers.{unzigzag}
 use Rattle.format.specs.Values.{valueAt}
 use Rattle.format.specs.Codec.{signed64}

@@ -1,7 +1,5 @@
 -- `reader::read` meets its contract. Assumes nothing.
-use mathlib.Core.Path.{refl}
-use borrow.Author.Needs.{needs}
-use lib.ListN.{length}
+use Rattle.format.specs.Kit.{refl, needs, length}
 use Rattle.format.specs.declared.Reply as Rp
 use Rattle.column.proofs.Facts.{opened-as, refused-as}
 use Rattle.reader.proofs.Answers.{refused-so, not-opened}
@@ -33,13 +31,9 @@ returns-2 c =
 
 pub read-spec : {M : Type 1} → statement M
 read-spec =
-    tie.close
-    (tie.spec
-    (λ c κs. search needs)
-    (λ c. search needs)
-    (λ c. search needs)
+    tie.close (tie.spec
+    (λ c κs. search needs) (λ c. search needs) (λ c. search needs)
     read-opened-requires
     returns
-    (λ c. search needs)
-    (λ c. search needs)
+    (λ c. search needs) (λ c. search needs)
     returns-2)

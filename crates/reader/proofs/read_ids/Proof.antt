@@ -1,9 +1,5 @@
 -- `reader::read_ids` meets its contract. Assumes nothing.
-use mathlib.Core.Path.{_≡_, ap₂, _∙_}
-use Prim.Native.Nat.{ℕ, _+_, _-_}
-use native.Mathlib.Omega.{arith}
-use borrow.Author.Needs.{needs}
-use lib.ListN.{take, drop}
+use Rattle.format.specs.Kit.{_≡_, ap₂, _∙_, ℕ, _+_, _-_, arith, needs, take, drop}
 use Rattle.format.specs.Pairs.{Below}
 use Rattle.format.specs.Editions.{editions}
 use Rattle.format.specs.Opening.{idPart}
@@ -55,14 +51,10 @@ returns c =
 
 pub read-ids-spec : {M : Type 1} → statement M
 read-ids-spec =
-    tie.close
-    (tie.spec
-    (λ c κs. search needs)
-    (λ c κs. search needs)
+    tie.close (tie.spec
+    (λ c κs. search needs) (λ c κs. search needs)
     add-end
-    (λ c κs. search needs)
-    (λ c. search needs)
-    (λ c. search needs)
+    (λ c κs. search needs) (λ c. search needs) (λ c. search needs)
     part-fill-ids-end
     fill-ids-requires
     (λ c. search needs)

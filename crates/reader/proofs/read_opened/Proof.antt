@@ -1,9 +1,5 @@
 -- `reader::read_opened` meets its contract: each refusal leaves the buffers, and all is verified before they are filled. Assumes nothing.
-use mathlib.Core.Path.{refl, sym, _∙_}
-use native.Mathlib.Omega.{arith}
-use borrow.Author.Needs.{needs}
-use borrow.Author.Tests.{not-true, not-false}
-use lib.ListN.{length}
+use Rattle.format.specs.Kit.{refl, sym, _∙_, arith, needs, not-true, not-false, length}
 use Rattle.column.specs.Opened.{columnOf}
 use Rattle.format.proofs.Digits.{below-all}
 use Rattle.reader.specs.Answered.{Whole}
@@ -60,8 +56,7 @@ returns-4 c =
 
 pub read-opened-spec : {M : Type 1} → statement M
 read-opened-spec =
-    tie.close
-    (tie.spec
+    tie.close (tie.spec
     (λ c κs. search needs)
     returns
     returns-2
@@ -69,6 +64,5 @@ read-opened-spec =
     returns-3
     read-ids-requires
     read-values-requires
-    (λ c. search needs)
-    (λ c. search needs)
+    (λ c. search needs) (λ c. search needs)
     returns-4)

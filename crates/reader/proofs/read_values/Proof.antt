@@ -1,9 +1,5 @@
 -- `reader::read_values` meets its contract. Assumes nothing.
-use mathlib.Core.Path.{_≡_, ap₂, _∙_}
-use Prim.Native.Nat.{ℕ, _+_, _-_}
-use native.Mathlib.Omega.{arith}
-use borrow.Author.Needs.{needs}
-use lib.ListN.{length, take, drop}
+use Rattle.format.specs.Kit.{_≡_, ap₂, _∙_, ℕ, _+_, _-_, arith, needs, length, take, drop}
 use Rattle.format.specs.Pairs.{Below}
 use Rattle.format.specs.Editions.{editions}
 use Rattle.format.specs.Opening.{valuePart}
@@ -61,10 +57,8 @@ returns c =
 
 pub read-values-spec : {M : Type 1} → statement M
 read-values-spec =
-    tie.close
-    (tie.spec
-    (λ c κs. search needs)
-    (λ c κs. search needs)
+    tie.close (tie.spec
+    (λ c κs. search needs) (λ c κs. search needs)
     add-start
     sub-fill
     part-fill-start

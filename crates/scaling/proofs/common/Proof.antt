@@ -1,9 +1,7 @@
 -- `scaling::common` meets its contract: where what is left is 0 or g, g divides x. Assumes nothing.
-use Prim.Native.Nat.{_*_, _/_, _≤_}
-use native.Mathlib.Omega.{arith}
+use Rattle.format.specs.Kit.{_*_, _/_, _≤_, arith, needs}
 use Rattle.format.proofs.Gcd.{gcd-multiple}
 use Rattle.scaling.proofs.Guess.{guess-le, guess-fits, gcd-of-next}
-use borrow.Author.Needs.{needs}
 use Rattle.scaling.proofs.common.Statement.{statement}
 use Rattle.scaling.proofs.common.Tie as tie
 

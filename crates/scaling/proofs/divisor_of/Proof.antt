@@ -1,8 +1,6 @@
 -- `scaling::divisor_of` meets its contract. Assumes nothing.
-use mathlib.Core.Path.{_∙_}
-use native.Mathlib.Omega.{arith}
+use Rattle.format.specs.Kit.{_∙_, arith, needs}
 use Rattle.scaling.proofs.Spread.{divisor-equal, divisor-else}
-use borrow.Author.Needs.{needs}
 use Rattle.scaling.proofs.divisor_of.Statement.{statement}
 use Rattle.scaling.proofs.divisor_of.Tie as tie
 

@@ -1,15 +1,9 @@
 -- `scaling::ends_of` meets its contract. The loop's invariant: low and high are the ends of the values passed.
 -- Assumes nothing.
-use mathlib.Core.Path.{ap, _∙_}
-use Prim.Native.Nat.{_-_, _<_, _^_}
-use native.Mathlib.Omega.{arith}
-use lib.IntN.{ℤ, pos}
-use lib.ListN.{length, getD}
-use lib.Signed.{mag}
+use Rattle.format.specs.Kit.{ap, _∙_, _-_, _<_, _^_, arith, ℤ, pos, length, getD, mag, needs}
 use Rattle.signed.specs.Sign.{biased}
 use Rattle.signed.proofs.Signs.{read-back}
 use Rattle.scaling.proofs.Extremes.{EndsAt, ends-none, ends-first, ends-more, ends-done}
-use borrow.Author.Needs.{needs}
 use Rattle.scaling.proofs.ends_of.Statement.{statement}
 use Rattle.scaling.proofs.ends_of.Tie as tie
 
@@ -43,21 +37,12 @@ returns-2 c = ends-done (c .before .loop .inv) (c .loop-test .left)
 
 pub ends-of-spec : {M : Type 1} → statement M
 ends-of-spec =
-    tie.close
-    (tie.spec
-    Inv-loop
-    μ-loop
+    tie.close (tie.spec Inv-loop μ-loop
     (λ c κs. search needs)
     returns
-    (λ c. search needs)
-    (λ c κs. search needs)
+    (λ c. search needs) (λ c κs. search needs)
     loop-holds
-    (λ c. search needs)
-    (λ c. search needs)
-    (λ c κs. search needs)
-    (λ c κs. search needs)
-    (λ c κs. search needs)
-    (λ c. search needs)
+    (λ c. search needs) (λ c. search needs) (λ c κs. search needs) (λ c κs. search needs) (λ c κs. search needs) (λ c. search needs)
     (λ c. search needs)
     loop-again
     returns-2)

@@ -1,10 +1,8 @@
 -- `scaling::gcd` meets its contract. Each turn is Euclid's step, which keeps the greatest common divisor; y falls.
 -- Assumes nothing.
-use mathlib.Core.Path.{_≡_, sym, ap, _∙_}
-use native.Mathlib.Nat.{pos-of-ne-zero, mod-lt}
+use Rattle.format.specs.Kit.{_≡_, sym, ap, _∙_, pos-of-ne-zero, mod-lt, needs}
 use Rattle.format.specs.Values.{gcd}
 use Rattle.format.proofs.Gcd.{gcd-step, gcd-zero}
-use borrow.Author.Needs.{needs}
 use Rattle.scaling.proofs.gcd.Statement.{statement}
 use Rattle.scaling.proofs.gcd.Tie as tie
 

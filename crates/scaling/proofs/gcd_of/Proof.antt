@@ -1,14 +1,7 @@
 -- `scaling::gcd_of` meets its contract. The loop's invariant: what the values left make of g is what all make of 0, and m serves
 -- for divisions by g. Assumes nothing.
-use mathlib.Core.Path.{_≡_, sym, ap, _∙_}
-use mathlib.Core.List.{List}
-use Prim.Native.Nat.{ℕ, _+_, _-_, _≤_, _<_}
-use native.Mathlib.Numerals.{add-one}
-use native.Mathlib.Omega.{arith}
-use borrow.Author.Needs.{needs}
-use lib.IntN.{ℤ, pos, natAbs}
-use lib.ListN.{length, drop, getD, drop-of-length-le}
-use lib.Seq.{drop-cons}
+use Rattle.format.specs.Kit.{_≡_, sym, ap, _∙_, List, ℕ, _+_, _-_, _≤_, _<_, add-one, arith, needs, ℤ, pos, natAbs, length, drop, getD}
+use Rattle.format.specs.Kit.{drop-of-length-le, drop-cons}
 use Rattle.format.specs.Values.{gcd, gcdOf}
 use Rattle.format.proofs.Gcd.{gcdOf-one}
 use Rattle.signed.proofs.Signs.{read-back}
@@ -54,18 +47,11 @@ returns-2 c = sym (none _ _ _ (c .loop-test .left)) ∙ c .before .loop .inv .1
 
 pub gcd-of-spec : {M : Type 1} → statement M
 gcd-of-spec =
-    tie.close
-    (tie.spec
-    Inv-loop
-    μ-loop
-    (λ c. search needs)
-    (λ c. search needs)
-    (λ c. search needs)
-    (λ c κs. search needs)
+    tie.close (tie.spec Inv-loop μ-loop
+    (λ c. search needs) (λ c. search needs) (λ c. search needs) (λ c κs. search needs)
     (λ c κs. c .before .before .before .loop .inv .2)
     returns
     (λ c κs. c .before .before .before .before .before .loop .inv .2)
-    (λ c. search needs)
-    (λ c. search needs)
+    (λ c. search needs) (λ c. search needs)
     loop-again
     returns-2)

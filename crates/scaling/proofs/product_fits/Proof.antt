@@ -1,10 +1,6 @@
 -- `scaling::product_fits` meets its contract. Assumes nothing.
-use mathlib.Core.Path.{_≡_, sym, ap, _∙_}
-use Prim.Native.Nat.{ℕ, _*_}
-use native.Mathlib.Nat.{mul-one}
-use lib.Dec.{leb}
+use Rattle.format.specs.Kit.{_≡_, sym, ap, _∙_, ℕ, _*_, mul-one, leb, needs}
 use Rattle.scaling.proofs.Guess.{product-lt, leb-over}
-use borrow.Author.Needs.{needs}
 use Rattle.scaling.proofs.product_fits.Statement.{statement}
 use Rattle.scaling.proofs.product_fits.Tie as tie
 

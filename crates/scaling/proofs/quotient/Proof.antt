@@ -1,10 +1,6 @@
 -- `scaling::quotient` meets its contract: the guess is never too great, so what it leaves decides. Assumes nothing.
-use mathlib.Core.Path.{sym, ap, _∙_}
-use Prim.Native.Nat.{ℕ, _-_, _*_, _/_, _≤_}
-use native.Mathlib.Nat.{div-one}
-use native.Mathlib.Omega.{arith}
+use Rattle.format.specs.Kit.{sym, ap, _∙_, ℕ, _-_, _*_, _/_, _≤_, div-one, arith, needs}
 use Rattle.scaling.proofs.Guess.{guess-le, guess-fits, over-is, next-over}
-use borrow.Author.Needs.{needs}
 use Rattle.scaling.proofs.quotient.Statement.{statement}
 use Rattle.scaling.proofs.quotient.Tie as tie
 
@@ -44,5 +40,4 @@ returns-3 c =
 
 pub quotient-spec : {M : Type 1} → statement M
 quotient-spec =
-    tie.close
-    (tie.spec returns mul-q mul-r sub-r returns-2 add-result returns-3 (λ c. search needs) (λ c. search needs))
+    tie.close (tie.spec returns mul-q mul-r sub-r returns-2 add-result returns-3 (λ c. search needs) (λ c. search needs))

@@ -1,8 +1,5 @@
 -- `scaling::reciprocal` meets its contract. Assumes nothing.
-use Prim.Native.Nat.{ℕ, _<_}
-use native.Mathlib.Omega.{arith}
-use native.Mathlib.Nat.{le-div-iff-mul-le, div-le-self}
-use borrow.Author.Needs.{needs}
+use Rattle.format.specs.Kit.{ℕ, _<_, arith, le-div-iff-mul-le, div-le-self, needs}
 use Rattle.scaling.proofs.reciprocal.Statement.{statement}
 use Rattle.scaling.proofs.reciprocal.Tie as tie
 

@@ -1,8 +1,6 @@
 -- `scaling::renewed` meets its contract. Assumes nothing.
-use mathlib.Core.Path.{sym, subst}
-use Prim.Native.Nat.{ℕ}
+use Rattle.format.specs.Kit.{sym, subst, ℕ, needs}
 use Rattle.scaling.specs.Reciprocal.{Reciprocal}
-use borrow.Author.Needs.{needs}
 use Rattle.scaling.proofs.renewed.Statement.{statement}
 use Rattle.scaling.proofs.renewed.Tie as tie
 

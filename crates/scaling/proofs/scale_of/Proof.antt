@@ -1,11 +1,8 @@
 -- `scaling::scale_of` meets its contract. Assumes nothing.
-use mathlib.Core.Path.{ap₂, _∙_}
-use Prim.Native.Nat.{_/_, _<_}
-use native.Mathlib.Omega.{arith}
+use Rattle.format.specs.Kit.{ap₂, _∙_, _/_, _<_, arith, needs}
 use Rattle.format.specs.Values.{divisor}
 use Rattle.format.proofs.Bounds.{divisor-is}
 use Rattle.scaling.proofs.Spread.{spread-is, smallest-is}
-use borrow.Author.Needs.{needs}
 use Rattle.scaling.proofs.scale_of.Statement.{statement}
 use Rattle.scaling.proofs.scale_of.Tie as tie
 
@@ -32,10 +29,8 @@ returns c =
 
 pub scale-of-spec : {M : Type 1} → statement M
 scale-of-spec =
-    tie.close
-    (tie.spec
-    (λ c κs. search needs)
-    (λ c κs. search needs)
+    tie.close (tie.spec
+    (λ c κs. search needs) (λ c κs. search needs)
     divisor-of-requires
     (λ c κs. search needs)
     div-most

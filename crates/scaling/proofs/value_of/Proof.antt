@@ -1,16 +1,11 @@
 -- `scaling::value_of` meets its contract: the test says that the product fits in what is left above the biased form.
 -- Assumes nothing.
-use mathlib.Core.Path.{sym, ap, _∙_}
-use Prim.Native.Nat.{_-_, _*_, _^_, _≤_, _<_}
-use borrow.Author.Tests.{leb-true, leb-false}
-use native.Mathlib.Omega.{arith}
+use Rattle.format.specs.Kit.{sym, ap, _∙_, _-_, _*_, _^_, _≤_, _<_, leb-true, leb-false, arith, some, needs}
 use mir.Syntax.{w64}
 use mir.Facts.{toZ-ofZ}
 use Rattle.format.specs.HeaderNumbers.{unzigzag}
 use Rattle.format.proofs.Fits.{fits-size, unzigzag-fits}
 use Rattle.scaling.proofs.Keep.{inside, outside}
-use mathlib.Core.Option.{some}
-use borrow.Author.Needs.{needs}
 use Rattle.scaling.proofs.value_of.Statement.{statement}
 use Rattle.scaling.proofs.value_of.Tie as tie
 
@@ -29,7 +24,8 @@ returns c =
     let f = fits-size _ (unzigzag-fits (s .args .smallest) (s .fits .smallest .fits)) in
     let q = toZ-ofZ {w = w64} {z = c .unbiased .result} (search needs) ∙ c .unbiased .ensures in
     ap some q
-    ∙ inside (unzigzag (s .args .smallest)) (s .args .divisor) (s .args .stored) _ f (c .before .before .before .biased-of .ensures) (omega (arith, room (c .before)))
+    ∙ inside (unzigzag (s .args .smallest)) (s .args .divisor) (s .args .stored) _ f (c .before .before .before .biased-of .ensures)
+    (omega (arith, room (c .before)))
 
 returns-2 : tie.Need-returns-2
 returns-2 c =
@@ -41,11 +37,8 @@ returns-2 c =
 
 pub value-of-spec : {M : Type 1} → statement M
 value-of-spec =
-    tie.close
-    (tie.spec
-    (λ c κs. search needs)
-    (λ c. search needs)
-    (λ c κs. search needs)
+    tie.close (tie.spec
+    (λ c κs. search needs) (λ c. search needs) (λ c κs. search needs)
     mul-unbiased
     add-unbiased
     (λ c κs. search needs)

@@ -1,9 +1,6 @@
 -- `section_check::block_reason` meets its contract. Assumes nothing.
-use mathlib.Core.Path.{sym, _∙_}
-use native.Mathlib.Omega.{arith}
-use borrow.Author.Needs.{needs}
+use Rattle.format.specs.Kit.{sym, _∙_, arith, needs, not-true, not-false}
 use Rattle.section_check.proofs.Turns.{reason-cut, reason-low, reason-high, reason-places, reason-words}
-use borrow.Author.Tests.{not-true, not-false}
 use Rattle.section_check.proofs.block_reason.Statement.{statement}
 use Rattle.section_check.proofs.block_reason.Tie as tie
 
@@ -18,11 +15,8 @@ returns-5 c =
 
 pub block-reason-spec : {M : Type 1} → statement M
 block-reason-spec =
-    tie.close
-    (tie.spec
-    (λ c. search needs)
-    (λ c. search needs)
-    (λ c κs. search needs)
+    tie.close (tie.spec
+    (λ c. search needs) (λ c. search needs) (λ c κs. search needs)
     (λ c. reason-cut _ _ _ _ _ _ (omega arith))
     (λ c. reason-low _ _ _ _ _ _ (omega arith) (omega arith))
     (λ c. reason-high _ _ _ _ _ _ (omega arith) (omega arith) (omega arith))

@@ -1,7 +1,5 @@
 -- `section_check::end_reason` meets its contract. Assumes nothing.
-use mathlib.Core.Path.{sym, _∙_}
-use native.Mathlib.Omega.{arith}
-use borrow.Author.Needs.{needs}
+use Rattle.format.specs.Kit.{sym, _∙_, arith, needs}
 use Rattle.section_check.proofs.Turns.{end-cut, end-bad, end-good}
 use Rattle.section_check.proofs.end_reason.Statement.{statement}
 use Rattle.section_check.proofs.end_reason.Tie as tie
@@ -23,13 +21,11 @@ returns-4 c =
 
 pub end-reason-spec : {M : Type 1} → statement M
 end-reason-spec =
-    tie.close
-    (tie.spec
+    tie.close (tie.spec
     (λ c. search needs)
     (λ c. end-cut _ _ (omega arith))
     (λ c κs. search needs)
     returns-2
-    (λ c. search needs)
-    (λ c κs. search needs)
+    (λ c. search needs) (λ c κs. search needs)
     returns-3
     returns-4)

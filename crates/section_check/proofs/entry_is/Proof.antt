@@ -1,7 +1,5 @@
 -- `section_check::entry_is` meets its contract. Assumes nothing.
-use mathlib.Core.Path.{sym, _∙_}
-use native.Mathlib.Omega.{arith}
-use borrow.Author.Needs.{needs}
+use Rattle.format.specs.Kit.{sym, _∙_, arith, needs}
 use Rattle.section_check.proofs.Turns.{entry-bad, entry-good}
 use Rattle.section_check.proofs.Bytes.{entry-short}
 use Rattle.section_check.proofs.entry_is.Statement.{statement}
@@ -19,13 +17,11 @@ returns-4 c =
 
 pub entry-is-spec : {M : Type 1} → statement M
 entry-is-spec =
-    tie.close
-    (tie.spec
+    tie.close (tie.spec
     (λ c. let a = c .before .before .args in sym (entry-short (a .s .now) (a .b) (a .o, a .at) (omega arith)))
     (λ c. search needs)
     (λ c. let a = c .before .before .before .args in sym (entry-short (a .s .now) (a .b) (a .o, a .at) (omega arith)))
     (λ c κs. search needs)
     returns-3
-    (λ c. search needs)
-    (λ c κs. search needs)
+    (λ c. search needs) (λ c κs. search needs)
     returns-4)

@@ -1,6 +1,5 @@
 -- `section_check::judge` meets its contract. Assumes nothing.
-use mathlib.Core.Path.{sym, ap, _∙_}
-use borrow.Author.Needs.{needs}
+use Rattle.format.specs.Kit.{sym, ap, _∙_, needs}
 use Rattle.section_check.specs.Reasons.{blocksOf}
 use Rattle.section_check.proofs.Left.{judge-fault, judge-rest}
 use Rattle.section_check.proofs.judge.Statement.{statement}

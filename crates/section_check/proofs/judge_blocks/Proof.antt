@@ -1,10 +1,6 @@
 -- `section_check::judge_blocks` meets its contract. The loop's invariant: the judge from the section's start is the judge from here, with the
 -- loop's own place, count and next number, since a turn that goes on passed every test of its block. Assumes nothing.
-use mathlib.Core.Path.{_≡_, sym, ap, _∙_}
-use Prim.Native.Nat.{ℕ, suc, _+_, _-_, _*_, _≤_}
-use native.Mathlib.Omega.{arith}
-use lib.ListN.{length}
-use borrow.Author.Needs.{needs}
+use Rattle.format.specs.Kit.{_≡_, sym, ap, _∙_, ℕ, suc, _+_, _-_, _*_, _≤_, arith, length, needs}
 use Rattle.format.specs.Limits.{endNumber, blockPlaces}
 use Rattle.format.specs.Bytes.{lowAt}
 use Rattle.format.specs.Ids.{dataBytes, blockBytes}
@@ -81,24 +77,15 @@ loop-again c =
 
 pub judge-blocks-spec : {M : Type 1} → statement M
 judge-blocks-spec =
-    tie.close
-    (tie.spec
-    Inv-loop
-    μ-loop
+    tie.close (tie.spec Inv-loop μ-loop
     (λ c. (begin (c .before .args .p) (c .before .args .s .now), omega arith, omega arith, omega arith))
-    (λ c. search needs)
-    (λ c κs. search needs)
-    (λ c κs. search needs)
+    (λ c. search needs) (λ c κs. search needs) (λ c κs. search needs)
     returns
     returns-2
-    (λ c. search needs)
-    (λ c κs. search needs)
-    (λ c. search needs)
-    (λ c κs. search needs)
+    (λ c. search needs) (λ c κs. search needs) (λ c. search needs) (λ c κs. search needs)
     (λ c κs. (c .before .before .before .before .before .before .before .pre, omega arith, omega arith))
     returns-3
-    (λ c. search needs)
-    (λ c κs. search needs)
+    (λ c. search needs) (λ c κs. search needs)
     (λ c κs. c .before .before .before .before .before .before .before .before .before .before .pre)
     (λ c. let w = sound _ _ _ _ _ _ (no-fault (c .before .before)) in let e = next-at c in omega arith)
     (λ c. let w = sound _ _ _ _ _ _ (no-fault (c .before .before)) in omega arith)

@@ -1,9 +1,6 @@
 -- `section_check::judge_entries` meets its contract. The loop's invariant: the runs ahead stand at the loop's place, and the entries that are
 -- left to judge are theirs, from entry i on (`Trail`). Assumes nothing.
-use mathlib.Core.Path.{_≡_, refl, ap, _∙_}
-use Prim.Native.Nat.{ℕ, _+_, _-_}
-use native.Mathlib.Omega.{arith}
-use borrow.Author.Needs.{needs}
+use Rattle.format.specs.Kit.{_≡_, refl, ap, _∙_, ℕ, _+_, _-_, arith, needs}
 use Rattle.format.specs.Bytes.{lowAt}
 use Rattle.format.specs.Ids.{dataBytes, blockBytes}
 use Rattle.format.proofs.Sizes.{block-total}
@@ -91,18 +88,14 @@ returns-3 c =
 
 pub judge-entries-spec : {M : Type 1} → statement M
 judge-entries-spec =
-    tie.close
-    (tie.spec
-    Inv-loop
-    μ-loop
+    tie.close (tie.spec Inv-loop μ-loop
     (λ c. omega (arith, blocks c .fits))
     (λ c. blocks c .begin)
     (λ c κs. omega (arith, ahead c _ _ refl refl .head))
     (λ c κs. search needs)
     (λ c. omega (arith, ahead (c .before .before) _ _ refl refl .head))
     (λ c κs. omega (arith, ahead (c .before .before) _ _ refl refl .head))
-    (λ c. search needs)
-    (λ c. search needs)
+    (λ c. search needs) (λ c. search needs)
     (λ c. omega (arith, read c .after))
     (λ c. let t = c .before .before .before .before .loop .inv in omega arith)
     (λ c. let t = c .before .before .before .before .loop .inv in omega arith)

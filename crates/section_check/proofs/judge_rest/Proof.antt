@@ -1,13 +1,8 @@
 -- `section_check::judge_rest` meets its contract. Assumes nothing.
-use mathlib.Core.Path.{_≡_, sym, ap, _∙_}
-use Prim.Native.Nat.{_+_}
-use native.Mathlib.Omega.{arith}
-use borrow.Author.Needs.{needs}
-use lib.ListN.{length}
+use Rattle.format.specs.Kit.{_≡_, sym, ap, _∙_, _+_, arith, needs, length, []}
 use Rattle.format.specs.Ids.{notTwo}
 use Rattle.format.specs.Refusals.{done}
 use Rattle.judge.specs.Judge.{judgeEntries}
-use mathlib.Core.List.{[]}
 use Rattle.section_check.specs.Reasons.{endedAt, entriesOf}
 use Rattle.section_check.proofs.Trail.{entriesIn, Past, past}
 use Rattle.section_check.proofs.Left.{two, not-two, no-entries, rest-count, rest-wrong, rest-over, rest-right}
@@ -51,8 +46,7 @@ returns-7 c = let q = c .before .before .before .before .before in rest-right _ 
 
 pub judge-rest-spec : {M : Type 1} → statement M
 judge-rest-spec =
-    tie.close
-    (tie.spec
+    tie.close (tie.spec
     (λ c. omega (arith, blocks c .fits))
     (λ c κs. search needs)
     (λ c. omega (arith, blocks (c .before) .most))

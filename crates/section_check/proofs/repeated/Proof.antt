@@ -1,10 +1,6 @@
 -- `section_check::repeated` meets its contract. Assumes nothing.
-use mathlib.Core.Path.{sym, _∙_}
-use Prim.Native.Nat.{_-_, _≤_}
-use native.Mathlib.Omega.{arith}
-use borrow.Author.Needs.{needs}
+use Rattle.format.specs.Kit.{sym, _∙_, _-_, _≤_, arith, needs, not-true, not-false}
 use Rattle.section_check.proofs.Turns.{Kept, kept-begin, kept-on, kept-stop, kept-end}
-use borrow.Author.Tests.{not-true, not-false}
 use Rattle.section_check.proofs.repeated.Statement.{statement}
 use Rattle.section_check.proofs.repeated.Tie as tie
 
@@ -27,16 +23,10 @@ loop-again c =
 
 pub repeated-spec : {M : Type 1} → statement M
 repeated-spec =
-    tie.close
-    (tie.spec
-    Inv-loop
-    μ-loop
+    tie.close (tie.spec Inv-loop μ-loop
     (λ c. let a = c .before .args in (kept-begin (a .s .now) (a .from) (a .n) (a .o) (a .at), omega arith))
-    (λ c. search needs)
-    (λ c. search needs)
-    (λ c κs. search needs)
+    (λ c. search needs) (λ c. search needs) (λ c κs. search needs)
     returns
-    (λ c. search needs)
-    (λ c. search needs)
+    (λ c. search needs) (λ c. search needs)
     loop-again
     (λ c. (omega arith, kept-end _ _ _ _ _ _ (c .before .loop .inv .0) (omega arith))))

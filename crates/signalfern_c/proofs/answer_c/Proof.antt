@@ -1,6 +1,5 @@
 -- `signalfern_c::answer_c` meets its contract. Assumes nothing.
-use borrow.Author.Needs.{needs}
-use mathlib.Core.Path.{sym, ap}
+use Rattle.format.specs.Kit.{needs, sym, ap}
 use mir.Syntax.{w64}
 use mir.Facts.{toZ-ofZ}
 use Rattle.signalfern_c.proofs.Shown.{refused-answer}
@@ -23,13 +22,8 @@ returns-3 c = refused-answer _ _ _ (c .before .number .ensures) (c .number-with 
 
 pub answer-c-spec : {M : Type 1} → statement M
 answer-c-spec =
-    tie.close
-    (tie.spec
-    (λ c. search needs)
-    (λ c. search needs)
-    (λ c. search needs)
-    (λ c κs. search needs)
-    (λ c κs. search needs)
+    tie.close (tie.spec
+    (λ c. search needs) (λ c. search needs) (λ c. search needs) (λ c κs. search needs) (λ c κs. search needs)
     returns
     returns-2
     returns-3)

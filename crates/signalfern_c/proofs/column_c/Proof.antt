@@ -1,6 +1,5 @@
 -- `signalfern_c::column_c` meets its contract. Assumes nothing.
-use borrow.Author.Needs.{needs}
-use mathlib.Core.Path.{sym, ap}
+use Rattle.format.specs.Kit.{needs, sym, ap}
 use Rattle.signalfern_c.proofs.Shown.{refused-column}
 use Rattle.signalfern_c.specs.Boundary.{columnC}
 use Rattle.column.specs.declared.Opening.{Opening}
@@ -16,12 +15,7 @@ returns-2 c = refused-column _ _ _ (c .before .number .ensures) (c .number-with 
 
 pub column-c-spec : {M : Type 1} → statement M
 column-c-spec =
-    tie.close
-    (tie.spec
-    (λ c. search needs)
-    (λ c κs. search needs)
-    (λ c. search needs)
-    (λ c κs. search needs)
-    (λ c κs. search needs)
+    tie.close (tie.spec
+    (λ c. search needs) (λ c κs. search needs) (λ c. search needs) (λ c κs. search needs) (λ c κs. search needs)
     returns
     returns-2)

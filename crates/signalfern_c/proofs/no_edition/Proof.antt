@@ -1,6 +1,5 @@
 -- `signalfern_c::no_edition` meets its contract. Assumes nothing.
-use borrow.Author.Needs.{needs}
-use mathlib.Core.Path.{sym, _∙_}
+use Rattle.format.specs.Kit.{needs, sym, _∙_}
 use Rattle.format.specs.Refusals.{need}
 use Rattle.signalfern_c.proofs.no_edition.Statement.{statement}
 use Rattle.signalfern_c.proofs.no_edition.Tie as tie

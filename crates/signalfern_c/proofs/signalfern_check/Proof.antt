@@ -1,6 +1,5 @@
 -- `signalfern_c::signalfern_check` meets its contract. Assumes nothing.
-use borrow.Author.Needs.{needs}
-use mathlib.Core.Path.{ap, _∙_}
+use Rattle.format.specs.Kit.{needs, ap, _∙_}
 use Rattle.signalfern_c.specs.Boundary.{replyC}
 use Rattle.signalfern_c.proofs.signalfern_check.Statement.{statement}
 use Rattle.signalfern_c.proofs.signalfern_check.Tie as tie

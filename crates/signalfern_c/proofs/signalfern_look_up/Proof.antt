@@ -1,6 +1,5 @@
 -- `signalfern_c::signalfern_look_up` meets its contract. Assumes nothing.
-use borrow.Author.Needs.{needs}
-use mathlib.Core.Path.{ap, _∙_, subst}
+use Rattle.format.specs.Kit.{needs, ap, _∙_, subst}
 use Rattle.format.specs.Walk.{FewWords}
 use Rattle.signalfern_c.specs.Boundary.{answerC}
 use Rattle.signalfern_c.proofs.signalfern_look_up.Statement.{statement}

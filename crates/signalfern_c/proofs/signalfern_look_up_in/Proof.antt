@@ -1,6 +1,5 @@
 -- `signalfern_c::signalfern_look_up_in` meets its contract. Assumes nothing.
-use borrow.Author.Needs.{needs}
-use mathlib.Core.Path.{sym, ap, _∙_, subst}
+use Rattle.format.specs.Kit.{needs, sym, ap, _∙_, subst}
 use Rattle.format.specs.Walk.{FewWords}
 use Rattle.column.specs.Opened.{knownOf}
 use Rattle.signalfern_c.specs.Boundary.{answerC, knownC}
@@ -27,14 +26,8 @@ returns-2 c =
 
 pub signalfern-look-up-in-spec : {M : Type 1} → statement M
 signalfern-look-up-in-spec =
-    tie.close
-    (tie.spec
-    (λ c κs. search needs)
-    (λ c. search needs)
-    (λ c. search needs)
-    (λ c κs. search needs)
-    (λ c κs. search needs)
+    tie.close (tie.spec
+    (λ c κs. search needs) (λ c. search needs) (λ c. search needs) (λ c κs. search needs) (λ c κs. search needs)
     returns
-    (λ c κs. search needs)
-    (λ c κs. search needs)
+    (λ c κs. search needs) (λ c κs. search needs)
     returns-2)

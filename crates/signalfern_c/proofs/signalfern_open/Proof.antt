@@ -1,6 +1,5 @@
 -- `signalfern_c::signalfern_open` meets its contract. Assumes nothing.
-use borrow.Author.Needs.{needs}
-use mathlib.Core.Path.{ap, _∙_}
+use Rattle.format.specs.Kit.{needs, ap, _∙_}
 use Rattle.signalfern_c.specs.Boundary.{columnC}
 use Rattle.signalfern_c.proofs.signalfern_open.Statement.{statement}
 use Rattle.signalfern_c.proofs.signalfern_open.Tie as tie

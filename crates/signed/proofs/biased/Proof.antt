@@ -1,5 +1,5 @@
 -- `signed::biased` meets its contract. Assumes nothing.
-use native.Mathlib.Omega.{arith}
+use Rattle.format.specs.Kit.{arith}
 use Rattle.signed.proofs.Machine.{Below, NotBelow, below, notBelow}
 use Rattle.signed.proofs.biased.Statement.{statement}
 use Rattle.signed.proofs.biased.Tie as tie
@@ -12,8 +12,7 @@ isnt c = notBelow _ (c .before .fits .v) (c .if1 .left)
 
 pub biased-spec : {M : Type 1} → statement M
 biased-spec =
-    tie.close
-    (tie.spec
+    tie.close (tie.spec
     (λ c. let k = is c in rw (k .reads) (tt, omega arith))
     (λ c. let k = is c in rw (k .reads) (omega arith))
     (λ c. let k = isnt c in rw (k .reads) (tt, omega arith))

@@ -1,6 +1,5 @@
 -- `signed::magnitude` meets its contract. Assumes nothing.
-use borrow.Author.Needs.{needs}
-use mathlib.Core.Path.{ap, _∙_}
+use Rattle.format.specs.Kit.{needs, ap, _∙_}
 use mir.Facts.{toZ-ofZ}
 use Rattle.signed.specs.Sign.{biased}
 use Rattle.signed.proofs.Signs.{magnitude-low, magnitude-high}

@@ -1,6 +1,6 @@
 -- `values::plan` meets its contract. Assumes nothing.
 use Rattle.values.proofs.One.{is-plain}
-use borrow.Author.Needs.{needs}
+use Rattle.format.specs.Kit.{needs}
 use Rattle.values.proofs.plan.Statement.{statement}
 use Rattle.values.proofs.plan.Tie as tie
 

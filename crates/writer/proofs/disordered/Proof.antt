@@ -1,15 +1,8 @@
 -- `writer::disordered` meets its contract. Assumes nothing.
-use native.Mathlib.Omega.{arith}
-use mathlib.Core.Path.{_≡_, sym, ap, _∙_}
-use mathlib.Core.Bool.{false}
-use Prim.Native.Nat.{ℕ, _+_, _-_, _≤_}
-use lib.Dec.{leb}
-use lib.ListN.{length, getD, drop}
-use borrow.Author.Tests.{leb-false}
+use Rattle.format.specs.Kit.{arith, _≡_, sym, ap, _∙_, false, ℕ, _+_, _-_, _≤_, leb, length, getD, drop, leb-false, needs}
 use Rattle.format.proofs.Tests.{neither}
 use Rattle.writer.proofs.Faults.{order-start, order-end, order-more}
 use Rattle.format.specs.Writer.{notAbove, orderFault}
-use borrow.Author.Needs.{needs}
 use Rattle.writer.proofs.disordered.Statement.{statement}
 use Rattle.writer.proofs.disordered.Tie as tie
 
@@ -43,18 +36,9 @@ returns c =
 
 pub disordered-spec : {M : Type 1} → statement M
 disordered-spec =
-    tie.close
-    (tie.spec
-    Inv-loop
-    μ-loop
+    tie.close (tie.spec Inv-loop μ-loop
     loop-holds
-    (λ c. search needs)
-    (λ c. search needs)
-    (λ c. search needs)
-    (λ c. search needs)
-    (λ c. search needs)
-    (λ c κs. search needs)
-    (λ c. search needs)
-    (λ c. search needs)
+    (λ c. search needs) (λ c. search needs) (λ c. search needs) (λ c. search needs) (λ c. search needs) (λ c κs. search needs)
+    (λ c. search needs) (λ c. search needs)
     loop-again
     returns)

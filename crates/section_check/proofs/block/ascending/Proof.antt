@@ -1,14 +1,9 @@
 -- `section_check::block::ascending` meets its contract. Assumes nothing.
-use mathlib.Core.Path.{_≡_, refl, sym, _∙_}
-use mathlib.Core.Bool.{_&&_}
-use Prim.Native.Nat.{_+_, _-_, _*_, _≤_}
-use native.Mathlib.Omega.{arith}
-use lib.ListN.{drop}
+use Rattle.format.specs.Kit.{_≡_, refl, sym, _∙_, _&&_, _+_, _-_, _*_, _≤_, arith, drop, needs}
 use Rattle.section_check.proofs.BlockTests.{asc-begin, asc-turn, asc-end}
 use Rattle.judge.specs.Judge.{ascFrom}
 use Rattle.format.specs.Bytes.{lowAt}
 use Rattle.format.specs.IdsRead.{shorts}
-use borrow.Author.Needs.{needs}
 use Rattle.section_check.proofs.block.ascending.Statement.{statement}
 use Rattle.section_check.proofs.block.ascending.Tie as tie
 
@@ -29,20 +24,9 @@ loop-again c =
 
 pub ascending-spec : {M : Type 1} → statement M
 ascending-spec =
-    tie.close
-    (tie.spec
-    Inv-loop
-    μ-loop
+    tie.close (tie.spec Inv-loop μ-loop
     (λ c. let a = c .before .args in (omega arith, asc-begin (a .s .now) (a .t) (a .c) _ refl))
-    (λ c. search needs)
-    (λ c. search needs)
-    (λ c κs. search needs)
-    (λ c. search needs)
-    (λ c. search needs)
-    (λ c. search needs)
-    (λ c κs. search needs)
-    (λ c κs. search needs)
-    (λ c. search needs)
-    (λ c. search needs)
+    (λ c. search needs) (λ c. search needs) (λ c κs. search needs) (λ c. search needs) (λ c. search needs) (λ c. search needs)
+    (λ c κs. search needs) (λ c κs. search needs) (λ c. search needs) (λ c. search needs)
     loop-again
     (λ c. sym (c .before .loop .inv .1 ∙ asc-end _ _ _ _ _ _ (omega arith))))

@@ -1,11 +1,6 @@
 -- `section_check::block::count_words` meets its contract. The loop's invariant: the sum is the ones of the strides passed, and what was found
 -- right so far, with the entries left, is what all entries give. Assumes nothing.
-use mathlib.Core.Path.{_≡_, sym, ap, ap₂, _∙_}
-use mathlib.Core.Bool.{_&&_}
-use Prim.Native.Nat.{ℕ, _+_, _-_, _*_, _/_, _^_, _≤_}
-use native.Mathlib.Nat.{zero-mul, add-zero}
-use native.Mathlib.Omega.{arith}
-use borrow.Author.Needs.{needs}
+use Rattle.format.specs.Kit.{_≡_, sym, ap, ap₂, _∙_, _&&_, ℕ, _+_, _-_, _*_, _/_, _^_, _≤_, zero-mul, add-zero, arith, needs}
 use Rattle.format.specs.Ids.{rankBytes}
 use Rattle.format.specs.LookUp.{onesFrom}
 use Rattle.format.proofs.Sizes.{ranks-none, stride-fits, stride-next}
@@ -85,24 +80,17 @@ returns-2 c =
 
 pub count-words-spec : {M : Type 1} → statement M
 count-words-spec =
-    tie.close
-    (tie.spec
-    Inv-loop
-    μ-loop
+    tie.close (tie.spec Inv-loop μ-loop
     (λ c κs. (omega (arith, c .before .before .pre .1), omega arith))
     returns
     (λ c κs. c .before .before .pre .0)
     (λ c. search needs)
     (λ c κs. let q = c .before .before .before .pre .0 in (omega (arith, q .least (c .before .if1 .left)), omega arith))
     loop-holds
-    (λ c. search needs)
-    (λ c. search needs)
-    (λ c κs. search needs)
-    (λ c κs. search needs)
+    (λ c. search needs) (λ c. search needs) (λ c κs. search needs) (λ c κs. search needs)
     ones-from-requires-2
     (λ c. let f = fits (c .before .before .before) in omega arith)
     (λ c. let f = fits (c .before .before .before) in omega arith)
-    (λ c. search needs)
-    (λ c. search needs)
+    (λ c. search needs) (λ c. search needs)
     loop-again
     returns-2)

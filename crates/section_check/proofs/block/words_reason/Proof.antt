@@ -1,10 +1,5 @@
 -- `section_check::block::words_reason` meets its contract. Assumes nothing.
-use mathlib.Core.Path.{_≡_, sym, _∙_}
-use native.Mathlib.Omega.{arith}
-use borrow.Author.Needs.{needs}
-use borrow.Author.Tests.{not-true, not-false, eq-eqb, ne-eqb}
-use mathlib.Core.Bool.{cond}
-use lib.Dec.{eqb}
+use Rattle.format.specs.Kit.{_≡_, sym, _∙_, arith, needs, not-true, not-false, eq-eqb, ne-eqb, cond, eqb}
 use Rattle.judge.specs.Judge.{onesUnlike, rankWrong}
 use Rattle.format.proofs.Sizes.{data-dense}
 use Rattle.section_check.proofs.BlockTests.{wordsReason, words-sparse, words-whole, words-dense}
@@ -38,8 +33,7 @@ returns-5 c =
 
 pub words-reason-spec : {M : Type 1} → statement M
 words-reason-spec =
-    tie.close
-    (tie.spec
+    tie.close (tie.spec
     (λ c. words-sparse _ _ _ _ (omega arith))
     (λ c. words-whole _ _ _ _ (omega arith))
     count-words-requires
