@@ -106,7 +106,7 @@ typedef struct {
     uint64_t width;       /* w, the bits of a stored number: 0 to 64 */
     uint64_t smallest;    /* the smallest value v as the header has it: 2v, or -2v-1 if v < 0;
                              signalfern_smallest gives v */
-    uint64_t divisor;     /* g, the divisor: at least 1 */
+    uint64_t divisor;     /* g, the divisor of the values' differences: at least 1 */
     uint64_t value_bytes; /* V, the bytes of the value section */
     uint64_t start;       /* the bytes of the header: where the id section starts */
 } signalfern_column;

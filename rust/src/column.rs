@@ -13,7 +13,7 @@ use crate::{ffi, Refusal};
 ///
 /// let bytes = signalfern::write_to_vec(&[3, 70_000], &[-5, 10], 9)?;
 /// let column = Column::open(&bytes)?;
-/// assert_eq!((column.len(), column.smallest(), column.divisor()), (2, -5, 5));
+/// assert_eq!((column.len(), column.smallest(), column.divisor()), (2, -5, 15));
 ///
 /// let answer = column.look_up(70_000)?;
 /// assert_eq!((answer.ordinal(), answer.value()), (Some(1), Some(10)));
@@ -135,7 +135,7 @@ impl<'a> Column<'a> {
         decoded(self.numbers.smallest)
     }
 
-    /// g, the divisor of the values: at least 1.
+    /// g, the divisor of the values' differences: at least 1.
     #[must_use]
     pub const fn divisor(&self) -> u64 {
         self.numbers.divisor
@@ -199,7 +199,7 @@ pub struct Header {
     pub width: u64,
     /// The smallest value.
     pub smallest: i64,
-    /// g, the divisor of the values.
+    /// g, the divisor of the values' differences: at least 1.
     pub divisor: u64,
     /// V, the bytes of the value section.
     pub value_bytes: u64,

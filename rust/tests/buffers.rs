@@ -72,10 +72,10 @@ fn in_little_memory() {
     memory(signalfern::write_pairs(pairs.clone(), 9).map(|column| column.len()));
     memory(signalfern::write_pairs(pairs.filter(|_| true), 9).map(|column| column.len()));
 
-    // Lists that fit, and a column beside them that does not.
+    // Lists that fit, and a column beside them that does not: 2^38 + 1 and 2^39 have no common divisor.
     let count = 25_000_000;
     let ids: Vec<u32> = (0..count).collect();
-    let values: Vec<i64> = (0..i64::from(count)).map(|i| i << 38 | 1).collect();
+    let values: Vec<i64> = (0..i64::from(count)).map(|i| i << 38 | i & 1).collect();
     memory(signalfern::write_to_vec(&ids, &values, 9).map(|column| column.len()));
 }
 

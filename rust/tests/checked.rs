@@ -179,9 +179,10 @@ fn damage_makes_no_checked_column() {
         (0, 2, Refusal::Edition),
         (2, 8, Refusal::Header),
         (3, 1, Refusal::Length),
-        (8, 2, Refusal::Damaged),
         (14, 2, Refusal::Damaged),
         (26, 1, Refusal::Damaged),
+        // Stored 2, 0, 2 for 3, 1, 0.
+        (26, 0x58, Refusal::Damaged),
     ] {
         let mut bytes = listed.bytes.clone();
         bytes[at] ^= bits;
@@ -195,5 +196,9 @@ fn another_column_is_no_damage() {
     let mut listed = Listed::new(vec![0, 2, 7], vec![150, 140, 135], 9);
     listed.bytes[26] ^= 0x40;
     listed.values[0] = 145;
+    listed.try_all([0, 2, 7], 3);
+    // And this one divisor 7 of divisor 5: stored are 2, 1, 0.
+    listed.bytes[8] ^= 2;
+    listed.values = vec![149, 142, 135];
     listed.try_all([0, 2, 7], 3);
 }

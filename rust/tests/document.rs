@@ -1,17 +1,12 @@
-//! Document 01's own cases: "Both sides of each line", by their bytes.
+//! Document 01's own cases: "Both sides of each line", by their bytes; with the divisor of document
+//! 02, [2].
 
 mod common;
 
 use common::parts::Parts;
-use common::{same, Random};
+use common::{bytes, same, Random};
 use signalfern::{Column, Refusal, MAX_COUNT, MAX_ID};
 use signalfern_reference::Answer;
-
-fn bytes(hex: &str) -> Vec<u8> {
-    hex.split_whitespace()
-        .map(|byte| u8::from_str_radix(byte, 16).unwrap())
-        .collect()
-}
 
 fn list(ids: &[u32], values: &[i64], power: u32) -> Vec<u8> {
     let column = same::write_exactly(ids, values, power);
@@ -64,14 +59,16 @@ fn divisor_and_width() {
     for (values, divisor, width) in [
         (&[150, 140, 135][..], 5, 2),
         (&[3, 4, 3000], 1, 12),
-        (&[3, 3000], 3, 10),
-        (&[i64::MIN, i64::MAX], 1, 64),
+        (&[3, 3000], 2997, 1),
+        (&[i64::MIN, i64::MAX], u64::MAX, 1),
+        (&[i64::MIN, i64::MAX, 0], 1, 64),
         (&[i64::MIN, 0], 1 << 63, 1),
         (&[i64::MIN, i64::MIN], 1, 0),
         (&[6, 6, 6], 1, 0),
         (&[0, 0], 1, 0),
         (&[0, i64::MAX], i64::MAX as u64, 1),
-        (&[-6, 6], 6, 2),
+        (&[-6, 6], 12, 1),
+        (&[-6, 6, 0], 6, 2),
     ] {
         let ids: Vec<u32> = (0..values.len() as u32).collect();
         let bytes = list(&ids, values, 0);

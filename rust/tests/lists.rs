@@ -142,8 +142,8 @@ fn every_width_with_a_divisor() {
             stored[3] = 0;
             stored[4] = most;
             stored[5] = 1.min(most);
-            // A multiple of the step, so that the step is the divisor.
-            let low = if step == odd { -3003 } else { i64::MIN };
+            // The step is the divisor, of whatever the smallest value is a multiple.
+            let low = if step == odd { -3001 } else { i64::MIN };
             let values: Vec<i64> = stored
                 .iter()
                 .map(|s| low.wrapping_add_unsigned(s.wrapping_mul(step)))

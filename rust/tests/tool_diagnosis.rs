@@ -230,6 +230,35 @@ fn damage_is_placed() {
     }
 }
 
+/// Stored 3, 1, 0 with divisor 5 in byte 26, and what else may stand there.
+#[test]
+fn stored_numbers_are_explained() {
+    let column = signalfern::write_to_vec(&[0, 2, 7], &[150, 140, 135], 9).unwrap();
+    for (byte, words) in [
+        // 2, 0, 2; then 3, 0, 3.
+        (
+            0x88,
+            "byte 26, stored numbers: 2 divides them all, so the writer would give divisor 10 and \
+             not 5",
+        ),
+        (
+            0xCC,
+            "byte 26, stored numbers: 3 divides them all, so the writer would give divisor 15 and \
+             not 5",
+        ),
+        // 3, 2, 1: none is 0.
+        (
+            0xE4,
+            "byte 6, smallest value in the header: 135, and no value is so small (the least stored \
+             is 1)",
+        ),
+    ] {
+        let mut bytes = column.clone();
+        bytes[26] = byte;
+        explained(&bytes, &["refusal 13, DAMAGED", words, "take the file again"]);
+    }
+}
+
 #[test]
 fn show_shows_what_it_can() {
     let folder = Folder::new("show_damaged");

@@ -1,5 +1,5 @@
 // Document 01, "Both sides of each line": the writer's lines that are not starred, and of the starred ones the whole columns and the
-// refusals. What is expected is the document's, or worked out from it by hand.
+// refusals; and document 02, [2]: the divisor. What is expected is the documents', or worked out from them by hand.
 use super::both;
 use super::both::is;
 use super::say;
@@ -41,18 +41,19 @@ fn columns() -> Tally {
     t.and(say::case(b"id 65536 at p 0, 45 bytes", one))
 }
 
-// Ids 0 and 1 in one block: 8 bytes, and 6 of the end block, make L 14. The smallest value is FF nine times, then 01.
-fn two_values() -> Tally {
-    // Width 64 (40) of two values: V 16 (10). Stored are 0 and 2^64 - 1.
+// Ids 0 and 1 in one block: 8 bytes, and 6 of the end block, make L 14 (0E). Width 1 of two values: V 1. Stored are 0 and 1: bits 01.
+// The smallest value is FF nine times, then 01.
+fn extremes() -> Tally {
+    // The divisor 2^64 - 1 is FF nine times, then 01.
     let widest = column(
-        b"\x01\x02\x09\x0E\x00\x40\xFF\xFF\xFF\xFF\xFF\xFF\xFF\xFF\xFF\x01\x01\x10\x00\x00\x01\x00\x00\x00\
-          \x01\x00\xFF\x7F\x00\x00\xFF\xFF\x00\x00\x00\x00\x00\x00\x00\x00\xFF\xFF\xFF\xFF\xFF\xFF\xFF\xFF",
+        b"\x01\x02\x09\x0E\x00\x01\xFF\xFF\xFF\xFF\xFF\xFF\xFF\xFF\xFF\x01\xFF\xFF\xFF\xFF\xFF\xFF\xFF\xFF\
+          \xFF\x01\x01\x00\x00\x01\x00\x00\x00\x01\x00\xFF\x7F\x00\x00\xFF\xFF\x40",
         &[0u32, 1],
         &[0u64, 18446744073709551615],
         &[!9223372036854775807i64, 9223372036854775807],
         9,
     );
-    // The divisor 2^63 is 80 nine times, then 01. Width 1 of two values: V 1. Stored are 0 and 1: bits 01.
+    // The divisor 2^63 is 80 nine times, then 01.
     let halves = column(
         b"\x01\x02\x09\x0E\x00\x01\xFF\xFF\xFF\xFF\xFF\xFF\xFF\xFF\xFF\x01\x80\x80\x80\x80\x80\x80\x80\x80\
           \x80\x01\x01\x00\x00\x01\x00\x00\x00\x01\x00\xFF\x7F\x00\x00\xFF\xFF\x40",
@@ -61,8 +62,33 @@ fn two_values() -> Tally {
         &[!9223372036854775807i64, 0],
         9,
     );
-    let t = say::case(b"smallest and greatest value: divisor 1, width 64", widest);
+    let t = say::case(
+        b"smallest and greatest value: divisor 2^64 - 1, width 1",
+        widest,
+    );
     t.and(say::case(b"smallest value and 0: divisor 2^63, width 1", halves))
+}
+
+// The divisor of differences that have one, of values that have none.
+fn scores() -> Tally {
+    // As above, with the smallest value 7 (0E).
+    let two = column(
+        b"\x01\x02\x09\x0E\x00\x01\x0E\x03\x01\x00\x00\x01\x00\x00\x00\x01\x00\xFF\x7F\x00\x00\xFF\xFF\x40",
+        &[0u32, 1],
+        &[ZERO + 7, ZERO + 10],
+        &[7i64, 10],
+        9,
+    );
+    // Three ids: L 16 (10). The smallest value is -9 (11). Stored are 2, 0 and 1 at width 2: bits 100001.
+    let three = column(
+        b"\x01\x03\x09\x10\x00\x02\x11\x07\x01\x00\x00\x02\x00\x00\x00\x01\x00\x02\x00\xFF\x7F\x00\x00\xFF\xFF\x84",
+        &[0u32, 1, 2],
+        &[ZERO + 5, ZERO - 9, ZERO - 2],
+        &[5i64, !8, !1],
+        9,
+    );
+    let t = say::case(b"values 7 and 10: divisor 3, width 1", two);
+    t.and(say::case(b"values 5, -9 and -2: divisor 7, width 2", three))
 }
 
 // A column of that many ids of block 0, each value 7, and its bytes: a header of 11, the block, 6 for the end block. The header is 11
@@ -96,7 +122,7 @@ fn answered(ids: &[u32], power: u32, room: u64, number: u64, with: u64) -> bool 
     )
 }
 
-// The column of ids 0 and 1 is the last one above: 27 bytes of header, 14 of ids, 1 of values.
+// The column of ids 0 and 1 is that of the smallest value and 0 above: 27 bytes of header, 14 of ids, 1 of values.
 fn refusals() -> Tally {
     let t = say::case(
         b"one id and two values: LENGTHS",
@@ -123,5 +149,9 @@ fn refusals() -> Tally {
 }
 
 pub fn lines() -> Tally {
-    columns().and(blocks()).and(two_values()).and(refusals())
+    columns()
+        .and(blocks())
+        .and(extremes())
+        .and(scores())
+        .and(refusals())
 }

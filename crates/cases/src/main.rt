@@ -1,4 +1,4 @@
-// Document 01's cases for the writer, and lists beside them, each written by the library and by the second writer.
+// The documents' cases for the writer, and lists beside them, each written by the library and by the second writer.
 mod both;
 mod document;
 mod say;
@@ -91,17 +91,14 @@ fn of_width(mask: u64, shift: u64) -> bool {
     both::list(lists::one(run_of(5, 3, 67)), v, 9) > 0
 }
 
-// With the divisor 1, and with the greatest that leaves the width: 2^(64-w).
+// With the divisor 1, and with the greatest power of 2 that leaves the width.
 fn widths() -> Tally {
     let mut t = Tally::none().with(of_width(0, 0));
     for spare in 0..64u64 {
         let mask = 18446744073709551615u64 >> spare;
         t = t.with(of_width(mask, 0)).with(of_width(mask, spare));
     }
-    say::lists(
-        b"widths 0 to 64, with the smallest divisor and the greatest",
-        t,
-    )
+    say::lists(b"widths 0 to 64, with divisor 1 and 2^(64-w)", t)
 }
 
 fn main() {

@@ -1,12 +1,14 @@
--- Every computed case about the definitions, in one statement: document 01's starred table, and both sides of each refusal's line.
+-- Every computed case about the definitions, in one statement: document 01's starred table, both sides of each refusal's line, and the
+-- divisor of document 02, [2].
 -- (It is the first of these files to be checked, so that a slip in a definition shows as the case that it breaks.) Assumes nothing.
 use Rattle.format.proofs.Starred.{Starred, starred}
-use Rattle.format.proofs.Pins.{WriterCases, writer-cases, HeaderCases, header-cases}
+use Rattle.format.proofs.Pins.{WriterCases, writer-cases, DivisorCases, divisor-cases, HeaderCases, header-cases}
 use Rattle.format.proofs.PinsSteps.{DamageCases, damage-cases, StepCases, step-cases, WalkCases, walk-cases}
 
 pub record AllCases : Type 0 where
   pub starred-table : Starred
   pub writer-table : WriterCases
+  pub divisor-table : DivisorCases
   pub header-table : HeaderCases
   pub damage-table : DamageCases
   pub step-table : StepCases
@@ -17,6 +19,7 @@ all-cases =
     record {
       starred-table = starred;
       writer-table = writer-cases;
+      divisor-table = divisor-cases;
       header-table = header-cases;
       damage-table = damage-cases;
       step-table = step-cases;

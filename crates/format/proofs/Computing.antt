@@ -8,7 +8,8 @@ use Rattle.format.specs.Bits.{bitOf, gather, tabulate, packed, bitAt, fe
 use Rattle.format.specs.Ids.{push, runs, kindOf, byKind, rankBytes, dataBytes, blockBytes, bitmap, countBelow, rankTable, blockData, blockOf, endBlock}
 use Rattle.format.specs.Ids.{jumpsFrom, notTwo, jumps, entryBytes, blocks, idSection}
 use Rattle.format.specs.IdsRead.{shorts, placesIn, readRuns, idsOf}
-use Rattle.format.specs.Values.{leastOf, mostOf, smallest, greatest, spread, gcdIn, gcd, gcdOf, divisor, bitsIn, bitLength, width, stored, valueAt}
+use Rattle.format.specs.Values.{leastOf, mostOf, smallest, greatest, spread, gcdIn, gcd, gcdFrom, differences, divisor}
+use Rattle.format.specs.Values.{bitsIn, bitLength, width, stored, valueAt}
 use Rattle.format.specs.Codec.{scaled, signed64}
 use Rattle.format.specs.Editions.{numberOf, editions, editionIn, highFirst, codec}
 use Rattle.format.specs.Column.{headOf, headNumbers, column}
@@ -22,8 +23,8 @@ unfoldable pub computing : Type 0
 unfolding bind onesIn andThen need given needNone bytesOf countFrom digits same fromDigits lowAt highAt groups number above readGroups readNumber
     gotAt numberAt numbersAt bitOf gather tabulate packed bitAt fetched push runs kindOf byKind rankBytes dataBytes blockBytes bitmap countBelow
     rankTable blockData blockOf endBlock jumpsFrom notTwo jumps entryBytes blocks idSection shorts placesIn readRuns idsOf leastOf mostOf smallest
-    greatest spread gcdIn gcd gcdOf divisor bitsIn bitLength width stored valueAt scaled signed64 numberOf editions editionIn highFirst codec headOf
-    headNumbers column notAbove orderFault rangeFault writeAs writeReply openColumn headFrom headOk idPart valuePart valueIn valueOf check allValues
-    pairsIn isDone isColumn accepted reading scan inSparse onesFrom strideLong strideRank denseAt placeAt entryAt answer fromEntry steps lookUp
-    lookUpIn indexOf seenOr walkFrom walk
+    greatest spread gcdIn gcd gcdFrom differences divisor bitsIn bitLength width stored valueAt scaled signed64 numberOf editions editionIn highFirst
+    codec headOf headNumbers column notAbove orderFault rangeFault writeAs writeReply openColumn headFrom headOk idPart valuePart valueIn valueOf
+    check allValues pairsIn isDone isColumn accepted reading scan inSparse onesFrom strideLong strideRank denseAt placeAt entryAt answer fromEntry
+    steps lookUp lookUpIn indexOf seenOr walkFrom walk
 computing = Unit {0}

@@ -2,8 +2,8 @@
 -- Assumes nothing.
 use Rattle.format.specs.Kit.{_≡_, refl, sym, ap, _∙_, subst, List, [], _∷_, map, ℕ, zero, suc, _+_, _-_, _*_, _/_, _%_, _<_, _∣_, mod-lt}
 use Rattle.format.specs.Kit.{zero-lt-suc, dvd-refl, dvd-zero, dvd-trans, dvd-sub, dvd-mod-iff, dvd-antisymm, dvd-mul-left, dvd-mul-right-of-dvd}
-use Rattle.format.specs.Kit.{one-dvd, mul-add, mul-comm, mul-assoc, div-add-mod', arith, ℤ, natAbs}
-use Rattle.format.specs.Values.{gcdIn, gcd, gcdOf}
+use Rattle.format.specs.Kit.{one-dvd, mul-add, mul-comm, mul-assoc, div-add-mod', mul-dvd-mul-left, arith, ℤ}
+use Rattle.format.specs.Values.{gcdIn, gcd, gcdFrom}
 use Rattle.format.specs.Pairs.{Each}
 
 -- ---- two numbers
@@ -39,6 +39,11 @@ gcd-zero a = refl
 pub gcd-step : (a b : ℕ) → gcd a b ≡ gcd b (a % b)
 gcd-step a b = gcd-unique (gcd-is a b) (is-step (gcd-is b (a % b)))
 
+pub gcd-comm : (a b : ℕ) → gcd a b ≡ gcd b a
+gcd-comm a b =
+    let g = gcd-is b a in
+    gcd-unique (gcd-is a b) (record { left = g .right; right = g .left; great = λ d p q. g .great d q p })
+
 one-gcd : (b : ℕ) → gcd 1 b ≡ 1
 one-gcd b = dvd-antisymm (gcd-is 1 b .left) (one-dvd (gcd 1 b))
 
@@ -66,16 +71,11 @@ scaled-in (suc f) k g a (suc b) h p q =
     scaled-in f k g (suc b) (a % suc b) (omega (arith, mod-lt a (zero-lt-suc b))) q (dvd-left-over k g a (suc b) p q)
 
 -- and so that of their greatest common divisor
-pub dvd-scaled-gcd : (k g a b : ℕ) → k ∣ g * a → k ∣ g * b → k ∣ g * gcd a b
+dvd-scaled-gcd : (k g a b : ℕ) → k ∣ g * a → k ∣ g * b → k ∣ g * gcd a b
 unfolding gcd
 dvd-scaled-gcd k g a b p q = scaled-in (suc b) k g a b (omega arith) p q
 
 -- ---- a list of numbers
-
--- of d and each number
-unfoldable pub gcdFrom : ℕ → List ℕ → ℕ
-gcdFrom d [] = d
-gcdFrom d (x ∷ xs) = gcdFrom (gcd d x) xs
 
 abbrev pub DividesEach : ℕ → List ℕ → Type 0
 DividesEach k [] = Unit {0}
@@ -97,10 +97,23 @@ unfolding gcdFrom
 dvd-gcdFrom k d [] p t = p
 dvd-gcdFrom k d (x ∷ xs) p t = dvd-gcdFrom k (gcd d x) xs (gcd-is d x .great k p (t .0)) (t .1)
 
-pub dvd-scaled-gcdFrom : (k g d : ℕ) (xs : List ℕ) → k ∣ g * d → DividesEach k (map (λ x. g * x) xs) → k ∣ g * gcdFrom d xs
+dvd-scaled-gcdFrom : (k g d : ℕ) (xs : List ℕ) → k ∣ g * d → DividesEach k (map (λ x. g * x) xs) → k ∣ g * gcdFrom d xs
 unfolding gcdFrom
 dvd-scaled-gcdFrom k g d [] p t = p
 dvd-scaled-gcdFrom k g d (x ∷ xs) p t = dvd-scaled-gcdFrom k g (gcd d x) xs (dvd-scaled-gcd k g d x p (t .0)) (t .1)
+
+scaled-each : (g k : ℕ) (xs : List ℕ) → DividesEach k xs → DividesEach (g * k) (map (λ x. g * x) xs)
+scaled-each g k [] t = tt
+scaled-each g k (x ∷ xs) t = (mul-dvd-mul-left k g (t .0), scaled-each g k xs (t .1))
+
+-- of the multiples by g: the multiple
+pub gcdFrom-scaled : (g d : ℕ) (xs : List ℕ) → gcdFrom (g * d) (map (λ x. g * x) xs) ≡ g * gcdFrom d xs
+gcdFrom-scaled g d xs =
+    let k : ℕ = gcdFrom d xs in
+    let l : List ℕ = map (λ x. g * x) xs in
+    dvd-antisymm
+    (dvd-scaled-gcdFrom (gcdFrom (g * d) l) g d xs (gcdFrom-first (g * d) l) (gcdFrom-each (g * d) l))
+    (dvd-gcdFrom (g * k) (g * d) l (mul-dvd-mul-left k g (gcdFrom-first d xs)) (scaled-each g k xs (gcdFrom-each d xs)))
 
 -- nothing but 1 can follow 1
 pub gcdFrom-one : (xs : List ℕ) → gcdFrom 1 xs ≡ 1
@@ -108,26 +121,13 @@ unfolding gcdFrom
 gcdFrom-one [] = refl
 gcdFrom-one (x ∷ xs) = rw (one-gcd x) (gcdFrom-one xs)
 
--- ---- the values taken without sign
+-- ---- a number for each value
 
-pub gcdOf-is : (g : ℕ) (vs : List ℤ) → gcdOf g vs ≡ gcdFrom g (map natAbs vs)
-unfolding gcdOf gcdFrom
-gcdOf-is g [] = refl
-gcdOf-is g (v ∷ vs) = gcdOf-is (gcd g (natAbs v)) vs
+module _ (k : ℕ) (f : ℤ → ℕ) where
+  pub each-value : (vs : List ℤ) → DividesEach k (map f vs) → Each (λ v. k ∣ f v) vs
+  each-value [] t = tt
+  each-value (v ∷ vs) t = (t .0, each-value vs (t .1))
 
-each-value : (k : ℕ) (vs : List ℤ) → DividesEach k (map natAbs vs) → Each (λ v. k ∣ natAbs v) vs
-each-value k [] t = tt
-each-value k (v ∷ vs) t = (t .0, each-value k vs (t .1))
-
-each-number : (k : ℕ) (vs : List ℤ) → Each (λ v. k ∣ natAbs v) vs → DividesEach k (map natAbs vs)
-each-number k [] t = tt
-each-number k (v ∷ vs) t = (t .0, each-number k vs (t .1))
-
-pub gcdOf-each : (g : ℕ) (vs : List ℤ) → Each (λ v. gcdOf g vs ∣ natAbs v) vs
-gcdOf-each g vs = each-value (gcdOf g vs) vs (rw (gcdOf-is g vs) (gcdFrom-each g (map natAbs vs)))
-
-pub dvd-gcdOf : (k g : ℕ) (vs : List ℤ) → k ∣ g → Each (λ v. k ∣ natAbs v) vs → k ∣ gcdOf g vs
-dvd-gcdOf k g vs p t = rw (gcdOf-is g vs) (dvd-gcdFrom k g (map natAbs vs) p (each-number k vs t))
-
-pub gcdOf-one : (vs : List ℤ) → gcdOf 1 vs ≡ 1
-gcdOf-one vs = gcdOf-is 1 vs ∙ gcdFrom-one (map natAbs vs)
+  pub each-number : (vs : List ℤ) → Each (λ v. k ∣ f v) vs → DividesEach k (map f vs)
+  each-number [] t = tt
+  each-number (v ∷ vs) t = (t .0, each-number vs (t .1))

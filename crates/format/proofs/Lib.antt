@@ -1,5 +1,5 @@
--- What is proved about the definitions: Demands.antt has the demands, AllCases.antt the computed cases, Meaning.antt the words of document 01
--- behind the definitions, Lawful.antt what a codec owes and Editions.antt that each keeps it; the others lead there.
+-- What is proved about the definitions: Demands.antt has the demands, AllCases.antt the computed cases, Meaning.antt and MeaningValues.antt
+-- the documents' words behind the definitions, Lawful.antt what a codec owes and Editions.antt that each keeps it; the others lead there.
 pub mod AllCases
 pub mod Computing
 pub mod Starred
@@ -7,6 +7,7 @@ pub mod Pins
 pub mod PinsSteps
 pub mod Demands
 pub mod Meaning
+pub mod MeaningValues
 pub mod Cases
 pub mod Tests
 pub mod Rules

@@ -1,22 +1,17 @@
--- That the definitions mean document 01's words where a reader could doubt it: smallest and greatest, the greatest common divisor, the
--- least width, packed bits, the bitmap, rank entries, jump entries. Assumes nothing.
+-- That the definitions mean document 01's words where a reader could doubt it: packed bits, the bitmap, rank entries, jump entries. (What
+-- is stored of the values stands in MeaningValues.) Assumes nothing.
 use Rattle.format.specs.Kit.{_≡_, refl, sym, ap, ap₂, _∙_, subst, cond, not, List, [], _∷_, append-nil, ℕ, suc, _+_, _-_, _*_, _/_, _%_, _^_}
-use Rattle.format.specs.Kit.{_<_, _≤_, _∣_, dvd-zero, mod-lt, zero-lt-suc, zero-add, add-zero, mul-le-mul-right, suc-mul, arith, T, ℤ, pos}
-use Rattle.format.specs.Kit.{natAbs, _+ℤ_, +ℤ-invr, +ℤ-idr, leZ, length, getD, drop, pow-add, pow-pos, digits-div, digits-mod, eq-eqb, ne-eqb}
-use Rattle.format.specs.Kit.{lt-ltb, le-ltb, eqb-true, eqb-false}
+use Rattle.format.specs.Kit.{_<_, _≤_, mod-lt, zero-lt-suc, zero-add, add-zero, mul-le-mul-right, suc-mul, arith, length, getD, drop, pow-add}
+use Rattle.format.specs.Kit.{pow-pos, digits-div, digits-mod, eq-eqb, ne-eqb, lt-ltb, le-ltb, eqb-true, eqb-false}
 use Rattle.format.specs.Limits.{blockPlaces, maxPower, maxId}
 use Rattle.format.specs.Bytes.{low, lowAt, highAt, bytesOf}
 use Rattle.format.specs.Bits.{bitOf, bitAt, packed, fetched}
 use Rattle.format.specs.Ids.{Run, Entry, runs, push, blockOf, blocks, bitmap, countBelow, rankTable, jumpsFrom}
 use Rattle.format.specs.IdsRead.{idsOf}
-use Rattle.format.specs.Values.{smallest, greatest, over, spread, gcdOf, divisor, bitsIn, bitLength, width}
-use Rattle.format.specs.Pairs.{Asc, Below, Each}
+use Rattle.format.specs.Pairs.{Asc, Below}
 use Rattle.format.specs.Walk.{listed}
 use Rattle.format.specs.Runs.{AscBlocks, endOf}
 use Rattle.format.proofs.Cases.{below-or, equal-or, true-or}
-use Rattle.format.proofs.Values as Values
-use Rattle.format.proofs.Values.{each-map, smallest-each, smallest-has, most-has, greatest-each, spread-each, over-back, bit-length, bit-length-le}
-use Rattle.format.proofs.Gcd.{gcdOf-each, dvd-gcdOf}
 use Rattle.format.proofs.Bits.{bits-packed, spare-packed, fetched-packed}
 use Rattle.format.proofs.Ones.{occurs, bit-is, count-zero}
 use Rattle.format.proofs.Dense.{bit-at, rank-at}
@@ -26,86 +21,6 @@ use Rattle.format.proofs.Section.{length-blocks}
 use Rattle.format.proofs.Runs.{ids-runs, fine-runs}
 use Rattle.format.proofs.Jumps.{asc-blocks, idsUnder, bytesUnder, length-jumps, entry-is}
 use Rattle.format.proofs.Skip.{fromB, skip, bytes-under-le}
-
--- ---- smallest and greatest
-
--- x stands in the list
-abbrev pub Among : ℤ → List ℤ → Type 0
-Among x vs = (i : ℕ) × (i < length vs) × (getD vs i (pos 0) ≡ x)
-
-each-among : (vs : List ℤ) → Each (λ x. Among x vs) vs
-each-among [] = tt
-each-among (v ∷ vs) = ((0, omega arith, refl), each-map (λ x a. (suc (a .0), omega (arith, a .1), a .2)) vs (each-among vs))
-
--- the smallest is at most each value, and one of them; the greatest likewise
-pub smallest-least : (vs : List ℤ) → Each (λ v. T (leZ (smallest vs) v)) vs
-smallest-least = smallest-each
-
-pub smallest-among : (v : ℤ) (vs : List ℤ) → Among (smallest (v ∷ vs)) (v ∷ vs)
-smallest-among v vs = smallest-has (λ x. Among x (v ∷ vs)) v vs (each-among (v ∷ vs))
-
-pub greatest-most : (vs : List ℤ) → Each (λ v. T (leZ v (greatest vs))) vs
-greatest-most = greatest-each
-
-greatest-has : (P : ℤ → Type 0) (v : ℤ) (vs : List ℤ) → Each P (v ∷ vs) → P (greatest (v ∷ vs))
-unfolding greatest
-greatest-has P v vs t = most-has P v vs (t .0) (t .1)
-
-pub greatest-among : (v : ℤ) (vs : List ℤ) → Among (greatest (v ∷ vs)) (v ∷ vs)
-greatest-among v vs = greatest-has (λ x. Among x (v ∷ vs)) v vs (each-among (v ∷ vs))
-
--- ---- the divisor
-
--- `gcdOf 0 vs` divides each value without its sign, and each number that does so divides it
-pub divides-all : (vs : List ℤ) → Each (λ v. gcdOf 0 vs ∣ natAbs v) vs
-divides-all = gcdOf-each 0
-
-pub divided-by-all : (vs : List ℤ) (d : ℕ) → Each (λ v. d ∣ natAbs v) vs → d ∣ gcdOf 0 vs
-divided-by-all vs d t = dvd-gcdOf d 0 vs (dvd-zero d) t
-
--- all values are equal exactly if max - min is 0
-abbrev pub AllEqual : List ℤ → Type 0
-AllEqual vs = Each (λ v. v ≡ smallest vs) vs
-
-over-self : (m : ℤ) → over m m ≡ 0
-over-self m = ap natAbs (+ℤ-invr m)
-
-equal-spread : (vs : List ℤ) → AllEqual vs → spread vs ≡ 0
-unfolding spread smallest greatest
-equal-spread [] t = over-self (pos 0)
-equal-spread (v ∷ vs) t =
-    ap (over (smallest (v ∷ vs))) (greatest-has (λ x. x ≡ smallest (v ∷ vs)) v vs t) ∙ over-self (smallest (v ∷ vs))
-
-spread-equal : (vs : List ℤ) → spread vs ≡ 0 → AllEqual vs
-spread-equal vs e =
-    Values.each-two (λ v l k. same v l (omega (arith, k))) vs (smallest-each vs) (spread-each vs)
-  where
-    same : (v : ℤ) → T (leZ (smallest vs) v) → over (smallest vs) v ≡ 0 → v ≡ smallest vs
-    same v l z = sym (over-back (smallest vs) v l) ∙ ap (λ (n : ℕ). smallest vs +ℤ pos n) z ∙ +ℤ-idr (smallest vs)
-
--- if all values are equal: g 1, w 0
-pub equal-divisor : (vs : List ℤ) → AllEqual vs → divisor vs ≡ 1
-unfolding divisor
-equal-divisor vs t = rw (eq-eqb (spread vs) 0 (equal-spread vs t))
-
-pub equal-width : (vs : List ℤ) → AllEqual vs → width vs ≡ 0
-unfolding width bitLength bitsIn
-equal-width vs t = rw (equal-divisor vs t, equal-spread vs t)
-
--- otherwise g is the greatest common divisor
-pub other-divisor : (vs : List ℤ) → (AllEqual vs → ⊥) → divisor vs ≡ gcdOf 0 vs
-unfolding divisor
-other-divisor vs k = rw (ne-eqb (spread vs) 0 (λ e. k (spread-equal vs e)))
-
--- ---- the width: the least w with (max - min) / g < 2 ^ w
-
-pub width-holds : (vs : List ℤ) → spread vs / divisor vs < 2 ^ width vs
-unfolding width
-width-holds vs = bit-length (spread vs / divisor vs)
-
-pub width-least : (vs : List ℤ) (w : ℕ) → spread vs / divisor vs < 2 ^ w → width vs ≤ w
-unfolding width
-width-least vs w h = bit-length-le (spread vs / divisor vs) w h
 
 -- ---- packed numbers
 

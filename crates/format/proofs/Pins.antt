@@ -1,11 +1,11 @@
--- Refusals 1 to 12 on both sides of their lines, as one computed table: the writer, the header, the lengths, the buffers.
+-- Refusals 1 to 12 on both sides of their lines, as one computed table: the writer, the header, the lengths, the buffers; and the values' divisor.
 -- (13 to 15 stand in PinsSteps.antt.) `search` makes a table by computing each case; a refusal names those that fail. Assumes nothing.
 use Rattle.format.specs.Kit.{_≡_, List, [], _∷_, _++_, ℕ, _^_, _-_, take, replicate, ℤ, pos, negsuc}
 use Rattle.format.specs.Refusals.{done, refused, given, LENGTHS, POWER, ORDER, RANGE, ROOM, SHORT, NUMBER, EDITION, HEADER, LENGTH, BUFFER, DAMAGED}
 use Rattle.format.specs.Bytes.{bytesOf}
 use Rattle.format.specs.HeaderNumbers.{number, got, readNumber, bad}
 use Rattle.format.specs.Ids.{blockBytes, endBlock, jumps}
-use Rattle.format.specs.Values.{divisor, width}
+use Rattle.format.specs.Values.{divisor, width, stored}
 use Rattle.format.specs.Editions.{editions}
 use Rattle.format.specs.Writer.{write, writeReply}
 use Rattle.format.specs.Check.{check, reading}
@@ -38,12 +38,6 @@ noPairs l j given = headed (1 ∷ 0 ∷ 9 ∷ l ∷ j ∷ 0 ∷ 0 ∷ 1 ∷ 0 �
 
 -- ---- the writer
 
-unfoldable pub lowest : ℤ
-lowest = negsuc (2 ^ 63 - 1)
-
-unfoldable pub highest : ℤ
-highest = pos (2 ^ 63 - 1)
-
 pub record WriterCases : Type 0 where
   -- 1: ids and values differ in count; it comes before 2
   pub more-values : write 9 [] (pos 1 ∷ []) 100 ≡ refused LENGTHS 0
@@ -72,20 +66,49 @@ pub record WriterCases : Type 0 where
   pub dense-without-ranks : blockBytes 0 4096 ≡ 8196
   pub dense-last : blockBytes 9 65535 ≡ 8452
   pub full-block : blockBytes 9 65536 ≡ 4
-  -- smallest and greatest 64-bit value together: g 1, w 64; smallest and 0: g 2^63, w 1; all equal: g 1, w 0
-  pub widest-divisor : divisor (lowest ∷ highest ∷ []) ≡ 1
-  pub widest : width (lowest ∷ highest ∷ []) ≡ 64
-  pub half-divisor : divisor (lowest ∷ pos 0 ∷ []) ≡ 2 ^ 63
-  pub half : width (lowest ∷ pos 0 ∷ []) ≡ 1
-  pub equal-divisor : divisor (pos 6 ∷ pos 6 ∷ []) ≡ 1
-  pub equal : width (pos 6 ∷ pos 6 ∷ []) ≡ 0
   -- a missing block has the entry of the next one written; two entries are written as none
   pub missing-blocks : jumps 0 (7 ∷ 196613 ∷ 196614 ∷ []) ≡ (0, 0) ∷ (1, 6) ∷ (1, 6) ∷ (1, 6) ∷ (3, 14) ∷ []
   pub two-entries : jumps 0 (7 ∷ []) ≡ []
 
 pub writer-cases : WriterCases
-unfolding computing headed section sections three lowest highest
+unfolding computing headed section sections three
 writer-cases = search
+
+-- ---- the divisor and the width (document 02, [2])
+
+unfoldable pub lowest : ℤ
+lowest = negsuc (2 ^ 63 - 1)
+
+unfoldable pub highest : ℤ
+highest = pos (2 ^ 63 - 1)
+
+pub record DivisorCases : Type 0 where
+  -- scores 7 and 10 need one bit (g 3)
+  pub scores-divisor : divisor (pos 7 ∷ pos 10 ∷ []) ≡ 3
+  pub scores : width (pos 7 ∷ pos 10 ∷ []) ≡ 1
+  -- smallest and greatest 64-bit value together, in either order: g 2^64 - 1, w 1
+  pub widest-divisor : divisor (lowest ∷ highest ∷ []) ≡ 2 ^ 64 - 1
+  pub widest : width (lowest ∷ highest ∷ []) ≡ 1
+  pub greatest-first : divisor (highest ∷ lowest ∷ []) ≡ 2 ^ 64 - 1
+  -- and 0 between them: g 1, w 64
+  pub full-divisor : divisor (lowest ∷ pos 0 ∷ highest ∷ []) ≡ 1
+  pub full : width (lowest ∷ pos 0 ∷ highest ∷ []) ≡ 64
+  -- smallest and 0: g 2^63, w 1
+  pub half-divisor : divisor (lowest ∷ pos 0 ∷ []) ≡ 2 ^ 63
+  pub half : width (lowest ∷ pos 0 ∷ []) ≡ 1
+  -- all equal, or none: g 1, w 0
+  pub equal-divisor : divisor (pos 5 ∷ pos 5 ∷ pos 5 ∷ []) ≡ 1
+  pub equal : width (pos 5 ∷ pos 5 ∷ pos 5 ∷ []) ≡ 0
+  pub none-divisor : divisor [] ≡ 1
+  pub none : width [] ≡ 0
+  -- values on both sides of 0; and where the first is not the smallest
+  pub mixed-divisor : divisor (negsuc 8 ∷ negsuc 1 ∷ pos 5 ∷ []) ≡ 7
+  pub mixed : width (negsuc 8 ∷ negsuc 1 ∷ pos 5 ∷ []) ≡ 2
+  pub mixed-stored : stored (negsuc 1 ∷ pos 5 ∷ negsuc 8 ∷ []) ≡ 1 ∷ 2 ∷ 0 ∷ []
+
+pub divisor-cases : DivisorCases
+unfolding computing lowest highest
+divisor-cases = search
 
 -- ---- the header
 

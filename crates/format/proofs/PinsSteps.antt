@@ -39,6 +39,10 @@ fives p n blocks es = made p n blocks es 0 (pos 5) 1 []
 unfoldable pub threeBy : List ℕ → ℕ → ℤ → ℕ → List ℕ → List ℕ
 threeBy rs w v g xs = made 9 3 (sparseBlock 0 rs ++ endBlock) [] w v g xs
 
+-- block 0 with places 0 and 2, and their values likewise
+unfoldable pub twoBy : ℕ → ℤ → ℕ → List ℕ → List ℕ
+twoBy w v g xs = made 9 2 (sparseBlock 0 (0 ∷ 2 ∷ []) ++ endBlock) [] w v g xs
+
 -- block 1 with place 0, for id 65536, and block 0 missing
 unfoldable pub secondBy : List Entry → List ℕ
 secondBy es = fives 0 1 (sparseBlock 1 (0 ∷ []) ++ endBlock) es
@@ -52,12 +56,16 @@ pub record DamageCases : Type 0 where
   pub wider : check editions (threeBy (0 ∷ 2 ∷ 7 ∷ []) 3 (pos 135) 5 (0x64 ∷ 0x00 ∷ [])) ≡ refused DAMAGED 0
   pub divisor-small : check editions (threeBy (0 ∷ 2 ∷ 7 ∷ []) 4 (pos 135) 1 (0xF5 ∷ 0x00 ∷ [])) ≡ refused DAMAGED 0
   pub smallest-not-there : check editions (threeBy (0 ∷ 2 ∷ 7 ∷ []) 3 (pos 130) 5 (0x88 ∷ 0x80 ∷ [])) ≡ refused DAMAGED 0
+  -- the values are 7 and 10: stored 0 and 1 with divisor 3, or 0 and 3 with divisor 1; 7 and 11: 0 and 2 have the common divisor 2
+  pub divisor-exact : check editions (twoBy 1 (pos 7) 3 (0x40 ∷ [])) ≡ done 2
+  pub divisor-of-values : check editions (twoBy 2 (pos 7) 1 (0x30 ∷ [])) ≡ refused DAMAGED 0
+  pub common-divisor : check editions (twoBy 2 (pos 7) 2 (0x20 ∷ [])) ≡ refused DAMAGED 0
   -- a count that is not n
   pub count-short : check editions (made 9 2 (sparseBlock 0 (0 ∷ 2 ∷ 7 ∷ []) ++ endBlock) [] 2 (pos 135) 5 (0xD0 ∷ [])) ≡ refused DAMAGED 0
   -- bytes between the end block and the entries
   pub loose-bytes : check editions (made 9 3 (sparseBlock 0 (0 ∷ 2 ∷ 7 ∷ []) ++ (endBlock ++ (0 ∷ []))) [] 2 (pos 135) 5 (0xD0 ∷ [])) ≡ refused DAMAGED 0
   -- a value above 64 bits: the greatest value, and one more stored above it
-  pub value-large : check editions (made 9 2 (sparseBlock 0 (0 ∷ 2 ∷ []) ++ endBlock) [] 1 (pos (2 ^ 63 - 1)) 1 (0x40 ∷ [])) ≡ refused DAMAGED 0
+  pub value-large : check editions (twoBy 1 (pos (2 ^ 63 - 1)) 1 (0x40 ∷ [])) ≡ refused DAMAGED 0
   -- jump entries
   pub entries-right : check editions (secondBy ((0, 0) ∷ (0, 0) ∷ (1, 6) ∷ [])) ≡ done 1
   pub ordinal-wrong : check editions (secondBy ((0, 0) ∷ (0, 0) ∷ (0, 6) ∷ [])) ≡ refused DAMAGED 0
@@ -70,7 +78,7 @@ pub record DamageCases : Type 0 where
       ≡ refused DAMAGED 0
 
 pub damage-cases : DamageCases
-unfolding computing blockHead sparseBlock made fives threeBy secondBy
+unfolding computing blockHead sparseBlock made fives threeBy twoBy secondBy
 damage-cases = search
 
 -- ---- 14 and 15

@@ -35,7 +35,7 @@ signed-fits u v e =
 
 -- ---- stored numbers
 
-getD-any : {A : Type 0} (l : List A) (i : ℕ) (d e : A) → i < length l → getD l i d ≡ getD l i e
+pub getD-any : {A : Type 0} (l : List A) (i : ℕ) (d e : A) → i < length l → getD l i d ≡ getD l i e
 getD-any [] i d e k = absurd (omega arith)
 getD-any (v ∷ vs) zero d e k = refl
 getD-any (v ∷ vs) (suc i) d e k = getD-any vs i d e (omega arith)

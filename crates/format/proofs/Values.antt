@@ -1,13 +1,14 @@
 -- The stored numbers stand for the values. Assumes nothing.
 use Rattle.format.specs.Kit.{_≡_, refl, sym, ap, ap₂, _∙_, subst, cond, not, List, [], _∷_, map, ℕ, zero, suc, _+_, _-_, _/_, _^_, _<_, _≤_}
-use Rattle.format.specs.Kit.{_∣_, zero-le, suc-le-suc, dvd-zero, dvd-add, dvd-sub, one-dvd, mul-div-cancel', le-trans, pow-zero, pow-succ'}
-use Rattle.format.specs.Kit.{add-comm, lt-of-le-of-lt, le-div-iff-mul-le, div-mul-le-self, arith, T, eqb, leb→le, le→leb, nleb→lt, lit<, ℤ, pos}
-use Rattle.format.specs.Kit.{negsuc, negℤ, natAbs, subℕ, _+ℤ_, _-ℤ_, +ℤ-comm, -ℤ-+ℤ-cancel, +ℤ-assoc, +ℤ-invl, +ℤ-idl, length, getD, length-map}
-use Rattle.format.specs.Kit.{leZ, nonNeg, pos-natAbs, lt-ltb, le-ltb}
-use Rattle.format.specs.Values.{leastOf, mostOf, smallest, greatest, over, gcdOf, divisor, stored, valueAt, spread, bitsIn, bitLength, width}
+use Rattle.format.specs.Kit.{_∣_, zero-le, suc-le-suc, dvd-zero, dvd-add, dvd-sub, dvd-antisymm, one-dvd, mul-div-cancel', le-trans, pow-zero}
+use Rattle.format.specs.Kit.{pow-succ', add-comm, lt-of-le-of-lt, le-div-iff-mul-le, div-mul-le-self, arith, T, eqb, leb→le, le→leb, nleb→lt}
+use Rattle.format.specs.Kit.{lit<, ℤ, pos, negsuc, negℤ, natAbs, subℕ, _+ℤ_, _-ℤ_, +ℤ-comm, -ℤ-+ℤ-cancel, +ℤ-assoc, +ℤ-invl, +ℤ-idl, negℤ-+ℤ}
+use Rattle.format.specs.Kit.{negℤ-negℤ, length, getD, length-map, leZ, nonNeg, pos-natAbs, lt-ltb, le-ltb}
+use Rattle.format.specs.Values.{leastOf, mostOf, smallest, greatest, over, spread, gcdFrom, differences, divisor, stored, valueAt}
+use Rattle.format.specs.Values.{bitsIn, bitLength, width}
 use Rattle.format.specs.Pairs.{Below, Each}
 use Rattle.format.proofs.Cases.{below-or, true-or}
-use Rattle.format.proofs.Gcd.{gcdOf-each}
+use Rattle.format.proofs.Gcd.{gcdFrom-each, dvd-gcdFrom, each-value, each-number}
 
 -- ---- each of a list
 
@@ -96,6 +97,17 @@ diff-nonNeg (negsuc a) (negsuc b) h = sub-nonNeg (suc a) (suc b) (omega (arith, 
 pub over-back : (m v : ℤ) → T (leZ m v) → m +ℤ pos (over m v) ≡ v
 over-back m v h = ap (λ (z : ℤ). m +ℤ z) (pos-natAbs (v -ℤ m) (diff-nonNeg m v h)) ∙ +ℤ-comm m (v -ℤ m) ∙ -ℤ-+ℤ-cancel v m
 
+-- (c - b) + (b - a)
+both-steps : (a b c : ℤ) → (c -ℤ b) +ℤ (b -ℤ a) ≡ c -ℤ a
+both-steps a b c =
+    +ℤ-assoc c (negℤ b) (b +ℤ negℤ a)
+    ∙ ap (λ (z : ℤ). c +ℤ z) (sym (+ℤ-assoc (negℤ b) b (negℤ a)) ∙ ap (λ (z : ℤ). z +ℤ negℤ a) (+ℤ-invl b) ∙ +ℤ-idl (negℤ a))
+
+over-add : (a b c : ℤ) → T (leZ a b) → T (leZ b c) → over a c ≡ over a b + over b c
+over-add a b c h k =
+    ap natAbs (sym (both-steps a b c) ∙ ap₂ _+ℤ_ (sym (pos-natAbs (c -ℤ b) (diff-nonNeg b c k))) (sym (pos-natAbs (b -ℤ a) (diff-nonNeg a b h))))
+    ∙ add-comm (over b c) (over a b)
+
 -- ---- the divisor
 
 dvd-subℕ : (d a b : ℕ) → d ∣ a → d ∣ b → d ∣ natAbs (subℕ a b)
@@ -104,7 +116,7 @@ dvd-subℕ d a b ha hb =
     (λ h. let gap : b - a ≡ suc (b - suc a) = omega arith in rw (lt-ltb a b h) (subst (λ (n : ℕ). d ∣ n) gap (dvd-sub d hb ha)))
     (λ h. rw (le-ltb a b h) (dvd-sub d ha hb))
 
-pub dvd-over : (d : ℕ) (m v : ℤ) → d ∣ natAbs m → d ∣ natAbs v → d ∣ over m v
+dvd-over : (d : ℕ) (m v : ℤ) → d ∣ natAbs m → d ∣ natAbs v → d ∣ over m v
 dvd-over d (pos zero) (pos b) hm hv = dvd-add d hv (dvd-zero d)
 dvd-over d (pos (suc a)) (pos b) hm hv = dvd-subℕ d b (suc a) hv hm
 dvd-over d (pos zero) (negsuc b) hm hv = dvd-subℕ d zero (suc b) hm hv
@@ -113,6 +125,16 @@ dvd-over d (pos (suc a)) (negsuc b) hm hv =
     subst (λ (n : ℕ). d ∣ n) sum (dvd-add d hv hm)
 dvd-over d (negsuc a) (pos b) hm hv = dvd-add d hv hm
 dvd-over d (negsuc a) (negsuc b) hm hv = dvd-subℕ d (suc a) (suc b) hm hv
+
+-- what divides the differences of a and two values divides the difference of these
+pub dvd-between : (d : ℕ) (a u v : ℤ) → d ∣ over a u → d ∣ over a v → d ∣ over u v
+dvd-between d a u v hu hv = subst (λ (z : ℤ). d ∣ natAbs z) apart (dvd-over d (u -ℤ a) (v -ℤ a) hu hv)
+  where
+    turned : negℤ (u -ℤ a) ≡ a -ℤ u
+    turned = negℤ-+ℤ u (negℤ a) ∙ ap (λ (z : ℤ). negℤ u +ℤ z) (negℤ-negℤ a) ∙ +ℤ-comm (negℤ u) a
+
+    apart : (v -ℤ a) -ℤ (u -ℤ a) ≡ v -ℤ u
+    apart = ap (λ (z : ℤ). (v -ℤ a) +ℤ z) turned ∙ both-steps u a v
 
 -- ---- the values come back
 
@@ -129,18 +151,37 @@ pub smallest-has : (P : ℤ → Type 0) (v : ℤ) (vs : List ℤ) → Each P (v 
 unfolding smallest
 smallest-has P v vs t = least-has P v vs (t .0) (t .1)
 
-divides-one : (v : ℤ) (vs : List ℤ) (u : ℤ) → gcdOf 0 (v ∷ vs) ∣ natAbs u → divisor (v ∷ vs) ∣ over (smallest (v ∷ vs)) u
-unfolding divisor
-divides-one v vs u h =
-    let d : ℕ = gcdOf 0 (v ∷ vs) in
-    true-or (eqb (spread (v ∷ vs)) 0)
-    (λ e. rw e (one-dvd (over (smallest (v ∷ vs)) u)))
-    (λ e. rw e (dvd-over d (smallest (v ∷ vs)) u (smallest-has (λ x. d ∣ natAbs x) v vs (gcdOf-each 0 (v ∷ vs))) h))
+-- the greatest common divisor of the differences to a
+abbrev gcdTo : ℤ → List ℤ → ℕ
+gcdTo a vs = gcdFrom 0 (map (over a) vs)
 
--- the divisor divides each difference from the smallest
+gcd-to-each : (a : ℤ) (vs : List ℤ) → Each (λ u. gcdTo a vs ∣ over a u) vs
+gcd-to-each a vs = each-value (gcdTo a vs) (over a) vs (gcdFrom-each 0 (map (over a) vs))
+
+-- if it divides that of b, it divides the one to b
+to-other : (a b : ℤ) (vs : List ℤ) → gcdTo a vs ∣ over a b → gcdTo a vs ∣ gcdTo b vs
+to-other a b vs h =
+    let k : ℕ = gcdTo a vs in
+    dvd-gcdFrom k 0 (map (over b) vs) (dvd-zero k)
+    (each-number k (over b) vs (each-map (λ u t. dvd-between k a b u h t) vs (gcd-to-each a vs)))
+
+-- the differences to the smallest value have the same greatest common divisor as those to the first
+pub gcd-from-smallest : (vs : List ℤ) → gcdFrom 0 (map (over (smallest vs)) vs) ≡ gcdFrom 0 (differences vs)
+unfolding differences
+gcd-from-smallest [] = refl
+gcd-from-smallest (v ∷ vs) =
+    let m : ℤ = smallest (v ∷ vs) in
+    dvd-antisymm
+    (to-other m v (v ∷ vs) (gcd-to-each m (v ∷ vs) .0))
+    (to-other v m (v ∷ vs) (smallest-has (λ u. gcdTo v (v ∷ vs) ∣ over v u) v vs (gcd-to-each v (v ∷ vs))))
+
+-- the divisor divides each difference to the smallest
 pub divides-each : (vs : List ℤ) → Each (λ v. divisor vs ∣ over (smallest vs) v) vs
-divides-each [] = tt
-divides-each (v ∷ vs) = each-map (divides-one v vs) (v ∷ vs) (gcdOf-each 0 (v ∷ vs))
+unfolding divisor
+divides-each vs =
+    true-or (eqb (spread vs) 0)
+    (λ e. rw e (each-map (λ v t. one-dvd (over (smallest vs) v)) vs (gcd-to-each (smallest vs) vs)))
+    (λ e. rw (e, ← gcd-from-smallest vs) (gcd-to-each (smallest vs) vs))
 
 pub each-two : {P Q R : ℤ → Type 0} → ((v : ℤ) → P v → Q v → R v) → (vs : List ℤ) → Each P vs → Each Q vs → Each R vs
 each-two f [] s t = tt
@@ -180,16 +221,6 @@ bits-le (suc f) (suc q) (suc k) h = suc-le-suc (bits-le f (suc q / 2) k (omega (
 pub bit-length-le : (q k : ℕ) → q < 2 ^ k → bitLength q ≤ k
 unfolding bitLength
 bit-length-le q k h = bits-le q q k h
-
-pub over-add : (a b c : ℤ) → T (leZ a b) → T (leZ b c) → over a c ≡ over a b + over b c
-over-add a b c h k =
-    ap natAbs (sym (the-sum a b c) ∙ ap₂ _+ℤ_ (sym (pos-natAbs (c -ℤ b) (diff-nonNeg b c k))) (sym (pos-natAbs (b -ℤ a) (diff-nonNeg a b h))))
-    ∙ add-comm (over b c) (over a b)
-  where
-    the-sum : (a b c : ℤ) → (c -ℤ b) +ℤ (b -ℤ a) ≡ c -ℤ a
-    the-sum a b c =
-        +ℤ-assoc c (negℤ b) (b +ℤ negℤ a)
-        ∙ ap (λ (z : ℤ). c +ℤ z) (sym (+ℤ-assoc (negℤ b) b (negℤ a)) ∙ ap (λ (z : ℤ). z +ℤ negℤ a) (+ℤ-invl b) ∙ +ℤ-idl (negℤ a))
 
 module _ (m v : ℤ) where
   greater : ℤ

@@ -9,13 +9,12 @@ pub use mathlib.Core.Path.{_∙_, _≡_, ap, ap₂, refl, subst, sym}
 pub use native.Mathlib.Decide.{decLe, decLt, ℕ-discrete}
 pub use native.Mathlib.Nat.{add-assoc, add-comm, add-mul, add-mul-div-left, add-mul-mod-self-left, add-sub-cancel-left, add-suc, add-zero}
 pub use native.Mathlib.Nat.{div-add-mod', div-div-eq-div-mul, div-eq-of-lt, div-le-self, div-lt-iff-lt-mul, div-mul-le-self, div-one, dvd-add}
-pub use native.Mathlib.Nat.{dvd-antisymm, dvd-mod-iff, dvd-mul-left, dvd-mul-right-of-dvd, dvd-of-mod-eq-zero, dvd-refl, dvd-sub, dvd-trans, dvd-zero}
+pub use native.Mathlib.Nat.{dvd-antisymm, dvd-mod-iff, dvd-mul-left, dvd-mul-right-of-dvd, dvd-refl, dvd-sub, dvd-trans, dvd-zero}
 pub use native.Mathlib.Nat.{eq-of-mul-eq-mul-left, eq-or-lt-of-le, le-div-iff-mul-le, le-mul-of-pos-right, le-of-dvd, le-of-eq, le-of-mul-le-mul-left}
-pub use native.Mathlib.Nat.{le-refl, le-trans, lt-of-le-of-lt, lt-of-lt-of-le, lt-of-not-le, mod-eq-of-lt, mod-eq-sub-div-mul, mod-eq-zero-of-dvd}
-pub use native.Mathlib.Nat.{mod-lt, mod-one, mul-add, mul-assoc, mul-comm, mul-div-cancel', mul-div-cancel-left, mul-dvd-mul-left, mul-le-mul}
-pub use native.Mathlib.Nat.{mul-le-mul-left, mul-le-mul-right, mul-one, mul-suc, mul-zero, one-dvd, one-le-pow, one-mul, pos-of-dvd-of-pos}
-pub use native.Mathlib.Nat.{pos-of-ne-zero, pow-suc, pow-succ', pow-zero, sub-self, sub-zero, suc-add, suc-mul, zero-add, zero-div, zero-lt-suc}
-pub use native.Mathlib.Nat.{zero-mod, zero-mul}
+pub use native.Mathlib.Nat.{le-refl, le-trans, lt-of-le-of-lt, lt-of-lt-of-le, lt-of-not-le, mod-eq-of-lt, mod-eq-sub-div-mul, mod-lt, mod-one}
+pub use native.Mathlib.Nat.{mul-add, mul-assoc, mul-comm, mul-div-cancel', mul-div-cancel-left, mul-dvd-mul-left, mul-le-mul, mul-le-mul-left}
+pub use native.Mathlib.Nat.{mul-le-mul-right, mul-one, mul-suc, mul-zero, one-dvd, one-le-pow, one-mul, pos-of-dvd-of-pos, pos-of-ne-zero, pow-suc}
+pub use native.Mathlib.Nat.{pow-succ', pow-zero, sub-self, sub-zero, suc-add, suc-mul, zero-add, zero-div, zero-lt-suc, zero-mod, zero-mul}
 pub use native.Mathlib.Numerals.{add-one}
 pub use native.Mathlib.Omega.{arith}
 pub use lib.Arith.{digits-div, digits-lt, digits-mod, mod-mul}
@@ -23,8 +22,8 @@ pub use lib.Bits.{and-mask, and-self, and-step, bitAnd, bitOr, or-shifted}
 unfoldable pub use lib.Count.{leadingZeros, ones, onesIn, trailingZeros}
 pub use lib.Count.{leading-le, ones-cat, ones-le, ones-step}
 pub use lib.Dec.{T, eqb, leb, leb→le, le→leb, lit<, lit≤, ltb, nleb→lt}
-pub use lib.IntN.{_+ℤ_, _-ℤ_, natAbs, negsuc, negℤ, negℤ-negℤ, pos, subℕ, ℤ, +ℤ-assoc, +ℤ-comm, +ℤ-idl, +ℤ-idr, +ℤ-invl, +ℤ-invr, +ℤ-negℤ-cancel}
-pub use lib.IntN.{ -ℤ-+ℤ-cancel}
+pub use lib.IntN.{_+ℤ_, _-ℤ_, natAbs, negsuc, negℤ, negℤ-+ℤ, negℤ-negℤ, pos, subℕ, ℤ, +ℤ-assoc, +ℤ-comm, +ℤ-idl, +ℤ-idr, +ℤ-invl, +ℤ-invr}
+pub use lib.IntN.{+ℤ-negℤ-cancel, -ℤ-+ℤ-cancel}
 pub use lib.ListN.{List·getD-append, List·getD-eq-default, List·getD-map, drop, drop-of-length-le, getD, getD-replicate, length, length-append}
 pub use lib.ListN.{length-drop, length-map, length-replicate, length-reverse, length-set, length-take, replicate, set, take, take-append-drop}
 pub use lib.Pow.{field, high, low, mod-mod-pow, mod-pow-add, pow-add, pow-lt, pow-mono, pow-pos, shl-exact, shl-lt, shl-shr, shr-lt, shr-shr}

@@ -1,17 +1,16 @@
 -- The tests of edition 1 accept a value section that keeps the header rules exactly if it is the section of its values, and the fields
 -- are theirs. Assumes nothing.
-use Rattle.format.specs.Kit.{_≡_, refl, sym, ap, ap₂, _∙_, subst, Bool, true, _&&_, List, [], _∷_, map, ℕ, _-_, _*_, _/_, _%_, _^_, _<_, _≤_, _∣_}
-use Rattle.format.specs.Kit.{min, max, mul-one, mul-zero, eq-of-mul-eq-mul-left, mod-eq-zero-of-dvd, dvd-of-mod-eq-zero, arith, eqb, leb, pow-mono}
-use Rattle.format.specs.Kit.{pow-pos, ℤ, natAbs, length, getD, length-map, List·getD-eq-default, eqb-true, eq-eqb, ne-eqb, leb-true, le-leb, lt-leb}
+use Rattle.format.specs.Kit.{_≡_, refl, sym, ap, ap₂, _∙_, subst, Bool, true, List, [], _∷_, map, ℕ, _-_, _*_, _^_, _<_, _≤_, min, max, mul-one}
+use Rattle.format.specs.Kit.{mul-zero, eq-of-mul-eq-mul-left, arith, eqb, leb, pow-mono, pow-pos, ℤ, length, getD, length-map, List·getD-eq-default}
+use Rattle.format.specs.Kit.{eqb-true, eq-eqb, ne-eqb, leb-true, le-leb, lt-leb}
 use Rattle.format.specs.HeaderNumbers.{zigzag, unzigzag}
 use Rattle.format.specs.Bits.{bitAt, tabulate, bitBytes, packed, unpacked}
-use Rattle.format.specs.Values.{smallest, greatest, gcdOf, divisor, bitLength, bitsIn, width, stored, spread}
+use Rattle.format.specs.Values.{smallest, greatest, gcdFrom, divisor, bitLength, bitsIn, width, stored, spread}
 use Rattle.format.specs.Pairs.{Below, Each, Fits}
 use Rattle.format.specs.Codec.{Fields}
 use Rattle.format.specs.Editions.{plain, codec}
 use Rattle.format.proofs.Cases.{below-or, equal-or}
 use Rattle.format.proofs.Bits.{below-at, packed-fetched, spare-packed, bitAt-past, unpacked-below, length-unpacked}
-use Rattle.format.proofs.Gcd.{gcdFrom}
 use Rattle.format.proofs.Fits.{zigzag-unzigzag, unzigzag-zigzag, unzigzag-fits, greatest-fits}
 use Rattle.format.proofs.Halves.{ValuesOf, Tested, values-decoded}
 use Rattle.format.proofs.Editions.{plain-fields, plain-section, lawful}
@@ -19,10 +18,10 @@ use Rattle.plain_values.specs.Held.{valueFrom, valuesFrom}
 use Rattle.plain_values.proofs.Facts.{Rules, rules-kept}
 use Rattle.plain_values.proofs.Held.{all-held}
 use Rattle.plain_check.specs.ValuesOk.{spareOk, rangeOk, numbersOk, equalOk, spreadOk, valuesOk}
-use Rattle.plain_check.proofs.Stored.{leastFrom, mostFrom, most-first, value-zero, fits-below, each-fits, common-value}
+use Rattle.plain_check.proofs.Stored.{leastFrom, mostFrom, most-first, value-zero, fits-below, each-fits}
 use Rattle.plain_check.proofs.Spare.{spare-sound, spare-complete}
 use Rattle.plain_check.proofs.Ranged.{bit-length-is, top-set, most-below, least-le, greatest-is, zero-there, zero-needed}
-use Rattle.plain_check.proofs.Ranged.{divisor-equal, divisor-spread, divides-least, width-is, stored-is}
+use Rattle.plain_check.proofs.Ranged.{divisor-equal, divisor-spread, width-is, stored-is}
 use Rattle.plain_check.proofs.Tested.{numbers-are}
 use Rattle.format.proofs.Tests.{both-true, true-both, or-left, or-right}
 
@@ -106,26 +105,24 @@ module _ (n : ℕ) (h : Fields) (s : List ℕ) (facts : Rules n h (length s)) (s
         sym (v .divisor-is) ∙ divisor-equal m (h .divisor) (facts .positive) x xs lo hi
 
     -- any other width
-    spread-made : 0 < w → h .divisor ∣ natAbs m → ((j : ℕ) → n * w ≤ j → bitAt s j ≡ 0)
-        → rangeOk h (leastFrom x xs) (mostFrom x xs) (gcdFrom (natAbs m / h .divisor) (x ∷ xs)) ≡ true → PlainOf n h s (vs (x ∷ xs))
+    spread-made : 0 < w → ((j : ℕ) → n * w ≤ j → bitAt s j ≡ 0)
+        → rangeOk h (leastFrom x xs) (mostFrom x xs) (gcdFrom 0 (x ∷ xs)) ≡ true → PlainOf n h s (vs (x ∷ xs))
     unfolding rangeOk Fits
-    spread-made z g spare r =
+    spread-made z spare r =
         let p : 0 < h .divisor = facts .positive in
         let f = both-true _ _ r in
         let d = both-true _ _ (f .0) in
         let t = both-true _ _ (d .0) in
         let lo : leastFrom x xs ≡ 0 = eqb-true _ _ (t .0) in
         let top : 2 ^ (w - 1) ≤ mostFrom x xs = leb-true _ _ (t .1) in
-        let one : gcdFrom (natAbs m / h .divisor) (x ∷ xs) ≡ 1 = eqb-true _ _ (d .1) in
+        let one : gcdFrom 0 (x ∷ xs) ≡ 1 = eqb-true _ _ (d .1) in
         let hi : 0 < mostFrom x xs = omega (arith, pow-pos (w - 1)) in
         made lo
-        (divisor-spread m (h .divisor) p x xs lo hi ∙ common-value m (h .divisor) p (x ∷ xs) g (divides-least m (h .divisor) p x xs lo)
-        ∙ ap (λ (k : ℕ). h .divisor * k) one ∙ mul-one (h .divisor))
+        (divisor-spread m (h .divisor) p x xs lo hi ∙ ap (λ (k : ℕ). h .divisor * k) one ∙ mul-one (h .divisor))
         (bit-length-is (mostFrom x xs) w lt-most top) (f .1) spare
 
     spread-range : 0 < w → PlainOf n h s (vs (x ∷ xs))
-        → (h .divisor ∣ natAbs m) × (rangeOk h (leastFrom x xs) (mostFrom x xs) (gcdFrom (natAbs m / h .divisor) (x ∷ xs)) ≡ true)
-        × (packed w (x ∷ xs) ≡ s)
+        → (rangeOk h (leastFrom x xs) (mostFrom x xs) (gcdFrom 0 (x ∷ xs)) ≡ true) × (packed w (x ∷ xs) ≡ s)
     unfolding rangeOk Fits
     spread-range z v =
         let p : 0 < h .divisor = facts .positive in
@@ -134,25 +131,21 @@ module _ (n : ℕ) (h : Fields) (s : List ℕ) (facts : Rules n h (length s)) (s
         let b : bitLength (mostFrom x xs) ≡ w = sym (width-is m (h .divisor) p x xs lo (v .divisor-is)) ∙ v .width-is in
         let top : 2 ^ (w - 1) ≤ mostFrom x xs = top-set (mostFrom x xs) w z b in
         let hi : 0 < mostFrom x xs = omega (arith, pow-pos (w - 1)) in
-        let d : gcdOf 0 (vs (x ∷ xs)) ≡ h .divisor = sym (divisor-spread m (h .divisor) p x xs lo hi) ∙ v .divisor-is in
-        let l : gcdOf 0 (vs (x ∷ xs)) ∣ natAbs m = divides-least m (h .divisor) p x xs lo in
-        let g : h .divisor ∣ natAbs m = subst (λ (k : ℕ). k ∣ natAbs m) d l in
-        let one : gcdFrom (natAbs m / h .divisor) (x ∷ xs) ≡ 1 =
-        eq-of-mul-eq-mul-left (h .divisor) p _ 1 (sym (common-value m (h .divisor) p (x ∷ xs) g l) ∙ d ∙ sym (mul-one (h .divisor))) in
+        let one : gcdFrom 0 (x ∷ xs) ≡ 1 =
+        eq-of-mul-eq-mul-left (h .divisor) p _ 1 (sym (divisor-spread m (h .divisor) p x xs lo hi) ∙ v .divisor-is ∙ sym (mul-one (h .divisor))) in
         let f : Fits (valueFrom h (mostFrom x xs)) =
         subst Fits (greatest-is m (h .divisor) p x xs) (greatest-fits (vs (x ∷ xs)) (v .fit)) in (
-          g,
           true-both _ _ (true-both _ _ (true-both _ _ (eq-eqb _ _ lo) (le-leb _ _ top)) (eq-eqb _ _ one)) f,
           sym (ap₂ packed (v .width-is) (stored-is m (h .divisor) p x xs a (v .divisor-is))) ∙ v .bytes,
         )
 
-    numbers-from : (d : ℕ) → numbersOk h (2 ^ w - 1) 0 d (x ∷ xs) ≡ rangeOk h (leastFrom x xs) (mostFrom x xs) (gcdFrom d (x ∷ xs))
+    numbers-from : numbersOk h (2 ^ w - 1) 0 0 (x ∷ xs) ≡ rangeOk h (leastFrom x xs) (mostFrom x xs) (gcdFrom 0 (x ∷ xs))
     unfolding leastFrom mostFrom
-    numbers-from d =
+    numbers-from =
         let a : min (2 ^ w - 1) x ≡ x = omega (arith, below .0) in
         let b : max 0 x ≡ x = omega arith in
-        numbers-are h (2 ^ w - 1) 0 d (x ∷ xs)
-        ∙ ap₂ (λ (y z : ℕ). rangeOk h (leastFrom y xs) (mostFrom z xs) (gcdFrom d (x ∷ xs))) a b
+        numbers-are h (2 ^ w - 1) 0 0 (x ∷ xs)
+        ∙ ap₂ (λ (y z : ℕ). rangeOk h (leastFrom y xs) (mostFrom z xs) (gcdFrom 0 (x ∷ xs))) a b
 
   -- ---- width 0
 
@@ -179,7 +172,8 @@ module _ (n : ℕ) (h : Fields) (s : List ℕ) (facts : Rules n h (length s)) (s
   equal-complete : (l : List ℕ) → unpacked w n s ≡ l → w ≡ 0 → PlainOf n h s (vs l) → equalOk n h ≡ true
   unfolding equalOk smallest greatest divisor spread
   equal-complete [] e z v =
-      true-both _ _ (eq-eqb _ _ (sym (v .divisor-is))) (or-right (leb 1 n) (eqb (h .smallest) 0) (eq-eqb (h .smallest) 0 (sym (v .smallest-is))))
+      true-both _ _ (eq-eqb _ _ (sym (v .divisor-is)))
+      (or-right (leb 1 n) (eqb (h .smallest) 0) (eq-eqb (h .smallest) 0 (sym (v .smallest-is))))
   equal-complete (x ∷ xs) e z v =
       let a : n ≡ length (x ∷ xs) = sym (length-unpacked w n s) ∙ ap length e in
       true-both _ _ (eq-eqb _ _ (equal-step x xs e z v)) (or-left (leb 1 n) (eqb (h .smallest) 0) (le-leb 1 n (omega arith)))
@@ -187,14 +181,7 @@ module _ (n : ℕ) (h : Fields) (s : List ℕ) (facts : Rules n h (length s)) (s
   -- ---- any other width
 
   abbrev numbers : List ℕ → Bool
-  numbers l = numbersOk h (2 ^ w - 1) 0 (natAbs m / h .divisor) l
-
-  spread-parts : spreadOk n h s ≡ true → (natAbs m % h .divisor ≡ 0) × (spareOk s (8 * length s - n * w) ≡ true) × (numbers (unpacked w n s) ≡ true)
-  unfolding spreadOk
-  spread-parts t =
-      let r = both-true (eqb (natAbs m % h .divisor) 0 && spareOk s (8 * length s - n * w)) (numbers (unpacked w n s)) t in
-      let g = both-true (eqb (natAbs m % h .divisor) 0) (spareOk s (8 * length s - n * w)) (r .0) in
-      (eqb-true _ _ (g .0), g .1, r .1)
+  numbers l = numbersOk h (2 ^ w - 1) 0 0 l
 
   none-stored : 0 < w → numbers [] ≡ true → ⊥
   unfolding numbersOk rangeOk
@@ -202,12 +189,15 @@ module _ (n : ℕ) (h : Fields) (s : List ℕ) (facts : Rules n h (length s)) (s
       let q : 2 ^ w - 1 ≡ 0 = eqb-true _ _ (both-true _ _ (both-true _ _ (both-true _ _ r .0) .0) .0) in
       omega (arith, pow-mono {i = 1} {j = w} z)
 
+  spread-parts : spreadOk n h s ≡ true → (spareOk s (8 * length s - n * w) ≡ true) × (numbers (unpacked w n s) ≡ true)
+  unfolding spreadOk
+  spread-parts t = both-true (spareOk s (8 * length s - n * w)) (numbers (unpacked w n s)) t
+
   spread-sound : (l : List ℕ) → unpacked w n s ≡ l → 0 < w → spreadOk n h s ≡ true → PlainOf n h s (vs l)
-  spread-sound [] e z t = absurd (none-stored z (subst (λ (k : List ℕ). numbers k ≡ true) e (spread-parts t .2)))
+  spread-sound [] e z t = absurd (none-stored z (subst (λ (k : List ℕ). numbers k ≡ true) e (spread-parts t .1)))
   spread-sound (x ∷ xs) e z t =
       let r = spread-parts t in
-      spread-made x xs e z (dvd-of-mod-eq-zero (h .divisor) (r .0)) (spare-sound s (n * w) length-is (r .1))
-      (sym (numbers-from x xs e (natAbs m / h .divisor)) ∙ subst (λ (k : List ℕ). numbers k ≡ true) e (r .2))
+      spread-made x xs e z (spare-sound s (n * w) length-is (r .0)) (sym (numbers-from x xs e) ∙ subst (λ (k : List ℕ). numbers k ≡ true) e (r .1))
 
   spread-complete : (l : List ℕ) → unpacked w n s ≡ l → 0 < w → PlainOf n h s (vs l) → spreadOk n h s ≡ true
   unfolding spreadOk smallest greatest divisor spread width bitLength bitsIn
@@ -216,10 +206,9 @@ module _ (n : ℕ) (h : Fields) (s : List ℕ) (facts : Rules n h (length s)) (s
       let r = spread-range x xs e z v in
       let k : length (x ∷ xs) ≡ n = ap length (sym e) ∙ length-unpacked w n s in
       true-both _ _
-      (true-both _ _ (eq-eqb _ _ (mod-eq-zero-of-dvd (h .divisor) (r .0)))
       (spare-complete s (n * w) length-is
-      (λ j l. subst (λ (b : List ℕ). bitAt b j ≡ 0) (r .2) (spare-packed w (x ∷ xs) j (subst (λ (i : ℕ). i * w ≤ j) (sym k) l)))))
-      (rw e (numbers-from x xs e (natAbs m / h .divisor) ∙ r .1))
+      (λ j l. subst (λ (b : List ℕ). bitAt b j ≡ 0) (r .1) (spare-packed w (x ∷ xs) j (subst (λ (i : ℕ). i * w ≤ j) (sym k) l))))
+      (rw e (numbers-from x xs e ∙ r .0))
 
   -- ---- the tests and the section
 

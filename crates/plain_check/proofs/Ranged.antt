@@ -1,12 +1,11 @@
 -- What a list of stored numbers says of the values m + g x: smallest, spread, divisor, width. Assumes nothing.
-use Rattle.format.specs.Kit.{_≡_, refl, sym, ap, ap₂, _∙_, subst, List, [], _∷_, map, ℕ, _-_, _*_, _/_, _^_, _<_, _≤_, _∣_, min, max, mul-zero}
-use Rattle.format.specs.Kit.{mul-div-cancel-left, eq-of-mul-eq-mul-left, arith, pow-mono, ℤ, natAbs, eq-eqb, ne-eqb}
-use Rattle.format.specs.Values.{smallest, greatest, over, spread, gcdOf, divisor, bitLength, width, stored, valueAt}
+use Rattle.format.specs.Kit.{_≡_, refl, sym, ap, ap₂, _∙_, List, [], _∷_, map, ℕ, _-_, _*_, _/_, _^_, _<_, _≤_, min, max, mul-zero}
+use Rattle.format.specs.Kit.{mul-div-cancel-left, eq-of-mul-eq-mul-left, arith, pow-mono, ℤ, eq-eqb, ne-eqb}
+use Rattle.format.specs.Values.{smallest, greatest, over, spread, gcdFrom, divisor, bitLength, width, stored, valueAt}
 use Rattle.format.specs.Pairs.{Below}
 use Rattle.format.proofs.Cases.{below-or}
-use Rattle.format.proofs.Gcd.{gcdOf-each}
-use Rattle.format.proofs.Values.{smallest-has, bit-length, bit-length-le}
-use Rattle.plain_check.proofs.Stored.{leastFrom, mostFrom, over-value, value-zero, least-value, most-value}
+use Rattle.format.proofs.Values.{bit-length, bit-length-le}
+use Rattle.plain_check.proofs.Stored.{leastFrom, mostFrom, over-value, value-zero, least-value, most-value, common-value}
 
 -- ---- the least width
 
@@ -69,16 +68,12 @@ module _ (m : ℤ) (g : ℕ) (p : 0 < g) (x : ℕ) (xs : List ℕ) where
       let a : spread vs ≡ 0 = spread-is e ∙ ap (λ (n : ℕ). g * n) f ∙ mul-zero g in
       rw (eq-eqb (spread vs) 0 a)
 
-  pub divisor-spread : lo ≡ 0 → 0 < hi → divisor vs ≡ gcdOf 0 vs
+  -- g is the divisor exactly if no number above 1 divides all that is stored
+  pub divisor-spread : lo ≡ 0 → 0 < hi → divisor vs ≡ g * gcdFrom 0 (x ∷ xs)
   unfolding divisor
   divisor-spread e f =
       rw (ne-eqb (spread vs) 0 (λ z. absurd (omega (arith, eq-of-mul-eq-mul-left g p hi 0 (sym (spread-is e) ∙ z ∙ sym (mul-zero g))))))
-
-  -- the divisor divides the smallest value
-  pub divides-least : lo ≡ 0 → gcdOf 0 vs ∣ natAbs m
-  divides-least e =
-      subst (λ (z : ℤ). gcdOf 0 vs ∣ natAbs z) (zero-there e)
-      (smallest-has (λ u. gcdOf 0 vs ∣ natAbs u) (valueAt m g x) (map (valueAt m g) xs) (gcdOf-each 0 vs))
+      (common-value m g p (x ∷ xs) (zero-there e))
 
   pub width-is : lo ≡ 0 → divisor vs ≡ g → width vs ≡ bitLength hi
   unfolding width

@@ -1,8 +1,7 @@
 -- What the tests say, each by itself, and the numbers' fold in three. Assumes nothing.
 use Rattle.format.specs.Kit.{_≡_, refl, List, [], _∷_, ℕ, min, max}
-use Rattle.format.specs.Values.{gcd}
+use Rattle.format.specs.Values.{gcd, gcdFrom}
 use Rattle.format.specs.Codec.{Fields}
-use Rattle.format.proofs.Gcd.{gcdFrom}
 use Rattle.plain_check.specs.ValuesOk.{rangeOk, numbersOk}
 use Rattle.plain_check.proofs.Stored.{leastFrom, mostFrom}
 

@@ -1,11 +1,11 @@
 -- The loop over the stored numbers: one more, none left, and when the rest cannot change the answer: once 0, the top bit and the divisor 1
 -- were seen they stay, and no number of the width is greater than the one that is known to fit. Assumes nothing.
 use Rattle.format.specs.Kit.{_≡_, refl, sym, ap, ap₂, _∙_, Bool, true, false, _&&_, List, _∷_, none, some, ℕ, suc, _+_, _-_, _*_, _/_, _%_, _^_, _<_}
-use Rattle.format.specs.Kit.{_≤_, min, max, zero-le, pow-suc, zero-mul, add-one, arith, bitAnd, and-mask, eqb, leb, ℤ, natAbs, pow-pos, length, drop}
+use Rattle.format.specs.Kit.{_≤_, min, max, zero-le, pow-suc, zero-mul, add-one, arith, bitAnd, and-mask, eqb, leb, ℤ, pow-pos, length, drop}
 use Rattle.format.specs.Kit.{drop-of-length-le, drop-cons, eqb-true, eq-eqb, leb-true, le-leb}
 use Rattle.format.specs.HeaderNumbers.{unzigzag}
 use Rattle.format.specs.Bits.{fetched, unpacked}
-use Rattle.format.specs.Values.{fits64, gcd, valueAt}
+use Rattle.format.specs.Values.{fits64, gcd, gcdFrom, valueAt}
 use Rattle.format.specs.Pairs.{Fits}
 use Rattle.format.specs.Codec.{Fields, signed64}
 use Rattle.format.proofs.Bits.{fetched-is, fetched-lt, within, unpacked-below, length-unpacked}
@@ -13,10 +13,11 @@ use Rattle.packing.proofs.Join.{place-next}
 use Rattle.format.proofs.Digits.{below-drop}
 use Rattle.format.proofs.Fits.{unzigzag-fits}
 use Rattle.scaling.specs.Reciprocal.{Reciprocal}
+use Rattle.scaling.proofs.Guess.{reciprocal-zero}
 use Rattle.plain_values.specs.Held.{valueFrom}
 use Rattle.plain_values.proofs.Facts.{Rules}
-use Rattle.format.proofs.Gcd.{gcdFrom, gcdFrom-one}
-use Rattle.plain_check.specs.ValuesOk.{spareOk, rangeOk, numbersOk, spreadOk}
+use Rattle.format.proofs.Gcd.{gcdFrom-one}
+use Rattle.plain_check.specs.ValuesOk.{rangeOk, numbersOk}
 use Rattle.plain_check.proofs.Stored.{leastFrom, mostFrom, most-first, fits-below}
 use Rattle.plain_check.proofs.Ranged.{most-below, least-le}
 use Rattle.plain_check.proofs.Tested.{numbers-are}
@@ -46,12 +47,6 @@ module _ (v : ℤ) where
 module _ (n : ℕ) (h : Fields) (s : List ℕ) where
   abbrev xs : List ℕ
   xs = unpacked (h .width) n s
-
-  -- the tests before the loop, with the code's own numbers
-  pub spread-is : {m k : ℕ} {t : Bool} → m ≡ natAbs (unzigzag (h .smallest)) → m % h .divisor ≡ 0 → k ≡ n * h .width → t ≡ spareOk s (8 * length s - k)
-      → spreadOk n h s ≡ t && numbersOk h (2 ^ h .width - 1) 0 (m / h .divisor) xs
-  unfolding spreadOk
-  spread-is em e en et = rw (← em, eq-eqb _ _ e, et, en)
 
   turn : (lo hi d i : ℕ) → i < n
       → let x = fetched s (h .width) i in numbersOk h lo hi d (drop i xs) ≡ numbersOk h (min lo x) (max hi x) (gcd d x) (drop (i + 1) xs)
@@ -96,10 +91,10 @@ pub record Sizes (n : ℕ) (h : Fields) (s : List ℕ) (top : ℕ) : Type 0 wher
 
 -- the numbers from i on, the first of which stands after the first skip bits of byte at, make of lo, hi and g what all make of the first
 -- ones; m serves for divisions by g
-pub record Turn (n : ℕ) (h : Fields) (s : List ℕ) (d lo hi g m i at skip : ℕ) : Type 0 where
+pub record Turn (n : ℕ) (h : Fields) (s : List ℕ) (lo hi g m i at skip : ℕ) : Type 0 where
   pub inside : i ≤ n
   pub below : hi < 2 ^ h .width
-  pub same : numbersOk h lo hi g (drop i (unpacked (h .width) n s)) ≡ numbersOk h (2 ^ h .width - 1) 0 d (unpacked (h .width) n s)
+  pub same : numbersOk h lo hi g (drop i (unpacked (h .width) n s)) ≡ numbersOk h (2 ^ h .width - 1) 0 0 (unpacked (h .width) n s)
   pub quick : Reciprocal g m
   pub place : at * 8 + skip ≡ i * h .width
   pub few : skip < 8
@@ -116,23 +111,23 @@ module _ {n : ℕ} {h : Fields} {s : List ℕ} {top : ℕ} (z : Sizes n h s top)
   pub enough : n * h .width ≤ 8 * length s
   enough = omega (arith, z .facts .bytes)
 
-  pub first : {d m : ℕ} → Reciprocal d m → Turn n h s d (top - 1 + top) 0 d m 0 0 0
-  first {d} r =
+  pub first : Turn n h s (top - 1 + top) 0 0 0 0 0 0
+  first =
       record {
         inside = zero-le;
         below = pow-pos (h .width);
-        same = ap (λ (k : ℕ). numbersOk h k 0 d (unpacked (h .width) n s)) most-is;
-        quick = r;
+        same = ap (λ (k : ℕ). numbersOk h k 0 0 (unpacked (h .width) n s)) most-is;
+        quick = reciprocal-zero;
         place = sym (zero-mul (h .width));
         few = omega arith;
       }
 
-  module _ {d lo hi g m i at skip : ℕ} (t : Turn n h s d lo hi g m i at skip) where
+  module _ {lo hi g m i at skip : ℕ} (t : Turn n h s lo hi g m i at skip) where
     pub room : i < n → at * 8 + skip + h .width ≤ 8 * length s
     room k = omega (arith, within i (h .width) n k, enough, t .place)
 
     pub next : i < n → {x lo2 hi2 g2 m2 : ℕ} → x ≡ fetched s (h .width) i → lo2 ≡ min lo x → hi2 ≡ max hi x → g2 ≡ gcd g x → Reciprocal g2 m2
-        → Turn n h s d lo2 hi2 g2 m2 (i + 1) (at + (skip + h .width) / 8) (bitAnd (skip + h .width) 7)
+        → Turn n h s lo2 hi2 g2 m2 (i + 1) (at + (skip + h .width) / 8) (bitAnd (skip + h .width) 7)
     next k e el eh eg r =
         let mask : bitAnd (skip + h .width) 7 ≡ (skip + h .width) % 8 = and-mask (skip + h .width) 3 in
         record {
@@ -146,7 +141,7 @@ module _ {n : ℕ} {h : Fields} {s : List ℕ} {top : ℕ} (z : Sizes n h s top)
 
     -- the rest cannot change the answer
     pub stops : h .smallest < 2 ^ 64 → {sure over : Bool} → sure ≡ fits64 (valueFrom h (top - 1 + top))
-        → over ≡ (sure && (eqb lo 0 && leb top hi && eqb g 1)) → over ≡ true → true ≡ numbersOk h (2 ^ h .width - 1) 0 d (unpacked (h .width) n s)
+        → over ≡ (sure && (eqb lo 0 && leb top hi && eqb g 1)) → over ≡ true → true ≡ numbersOk h (2 ^ h .width - 1) 0 0 (unpacked (h .width) n s)
     stops small {sure} es eo o =
         let r = both-true sure (eqb lo 0 && leb top hi && eqb g 1) (sym eo ∙ o) in
         let k : fits64 (valueFrom h (top - 1 + top)) ≡ true = sym es ∙ r .0 in
@@ -155,6 +150,6 @@ module _ {n : ℕ} {h : Fields} {s : List ℕ} {top : ℕ} (z : Sizes n h s top)
 
     -- none is left
     pub ended : n ≤ i → {b r : Bool} → b ≡ (eqb lo 0 && leb top hi && eqb g 1) → r ≡ (b && fits64 (valueFrom h hi))
-        → r ≡ numbersOk h (2 ^ h .width - 1) 0 d (unpacked (h .width) n s)
+        → r ≡ numbersOk h (2 ^ h .width - 1) 0 0 (unpacked (h .width) n s)
     unfolding rangeOk
     ended k {b} {r} e er = er ∙ sym (end n h s lo hi g i k ∙ rw (e, z .high)) ∙ t .same

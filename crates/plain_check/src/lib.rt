@@ -1,11 +1,9 @@
-// The check of a value section of edition 1 (document 01, "Value section") that keeps the header rules.
+// The check of a value section of edition 1 (document 01, "Value section"; document 02, [2]) that keeps the header rules.
 ghost use mathlib.Core.Path.{_≡_};
 ghost use mathlib.Core.Bool.{true, _&&_};
 ghost use Prim.Native.Nat.{_-_, _^_, _≤_, _<_};
 ghost use lib.Dec.{eqb, leb};
-ghost use lib.IntN.{natAbs};
 ghost use lib.ListN.{length};
-ghost use Rattle.format.specs.HeaderNumbers.{unzigzag};
 ghost use Rattle.format.specs.Bits.{unpacked};
 ghost use Rattle.format.specs.Values.{fits64};
 ghost use Rattle.format.specs.Limits.{maxCount};
@@ -15,13 +13,6 @@ ghost use Rattle.plain_values.specs.Held.{valueFrom};
 ghost use Rattle.plain_check.specs.ValuesOk.{spareOk, numbersOk, equalOk, spreadOk, valuesOk};
 use format::Fetched;
 use format::Fields;
-
-// A signed number without its sign, from its header number.
-fn magnitude(number: u64) -> u64
-    ensures { λ r. ⌜ r ≡ natAbs (unzigzag number) ⌝ }
-{
-    number / 2 + number % 2
-}
 
 // Whether the value of a stored number fits in 64 bits.
 fn fits(fields: Fields, stored: u64) -> bool
@@ -71,9 +62,9 @@ fn settled(sure: bool, lo: u64, hi: u64, d: u64, top: u64) -> bool
 }
 
 // The stored numbers, one after the other, until the answer is settled.
-fn numbers_ok(s: &[u8], n: usize, fields: Fields, d: u64) -> bool
+fn numbers_ok(s: &[u8], n: usize, fields: Fields) -> bool
     requires { ⌜ (codec plain .fieldsOk n (fieldsOf fields) (length (now s)) ≡ true) × (0 < fields .width) ⌝ }
-    ensures { λ r. ⌜ r ≡ numbersOk (fieldsOf fields) (2 ^ fields .width - 1) 0 d (unpacked (fields .width) n (now (s .entry))) ⌝ }
+    ensures { λ r. ⌜ r ≡ numbersOk (fieldsOf fields) (2 ^ fields .width - 1) 0 0 (unpacked (fields .width) n (now (s .entry))) ⌝ }
 {
     let w = fields.width as usize;
     let top = numbers::pow2(w - 1);
@@ -81,8 +72,8 @@ fn numbers_ok(s: &[u8], n: usize, fields: Fields, d: u64) -> bool
     let sure = fits(fields, most);
     let mut lo = most;
     let mut hi: u64 = 0;
-    let mut g = d;
-    let mut m = scaling::reciprocal(d);
+    let mut g: u64 = 0;
+    let mut m: u64 = 0;
     let mut i: usize = 0;
     let mut at: usize = 0;
     let mut skip: usize = 0;
@@ -126,15 +117,11 @@ fn spread_ok(s: &[u8], n: u64, fields: Fields) -> bool
     requires { ⌜ (n ≤ maxCount) × (codec plain .fieldsOk n (fieldsOf fields) (length (now s)) ≡ true) × (0 < fields .width) ⌝ }
     ensures { λ r. ⌜ r ≡ spreadOk n (fieldsOf fields) (now (s .entry)) ⌝ }
 {
-    let m = magnitude(fields.smallest);
-    if m % fields.divisor != 0 {
-        return false;
-    }
     let spare = 8 * s.len() - numbers::size(n * fields.width);
     if !spare_ok(s, spare) {
         return false;
     }
-    numbers_ok(s, n as usize, fields, m / fields.divisor)
+    numbers_ok(s, n as usize, fields)
 }
 
 // Whether a value section is the section of its values, and the fields are theirs.

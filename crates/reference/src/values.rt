@@ -1,9 +1,9 @@
-// The value section (document 01, "Value section"). A value v stands here as v + 2^63.
+// The value section (document 01, "Value section"; document 02, [2]). A value v stands here as v + 2^63.
 use super::bytes;
 use super::bytes::ZERO;
 use super::bytes::plus;
 
-// What the values have in common: the smallest, the greatest, and the greatest common divisor of all without their signs.
+// What the values have in common: the smallest, the greatest, and the greatest common divisor of each one's difference to the first.
 struct Span {
     smallest: u64,
     greatest: u64,
@@ -16,9 +16,9 @@ pub struct Facts {
     pub width: u64,
 }
 
-// The value without its sign.
-fn magnitude(v: u64) -> u64 {
-    if v < ZERO { ZERO - v } else { v - ZERO }
+// The difference of two values, a whole number to 2^64 - 1.
+fn apart(a: u64, b: u64) -> u64 {
+    if a < b { b - a } else { a - b }
 }
 
 // The header number of a value: 2v for v >= 0, -2v-1 for v < 0.
@@ -50,11 +50,11 @@ fn common(a: u64, b: u64) -> u64 {
     x
 }
 
-fn with_value(s: Span, v: u64) -> Span {
+fn with_value(s: Span, first: u64, v: u64) -> Span {
     Span {
         smallest: if v < s.smallest { v } else { s.smallest },
         greatest: if v > s.greatest { v } else { s.greatest },
-        divisor: common(s.divisor, magnitude(v)),
+        divisor: common(s.divisor, apart(first, v)),
     }
 }
 
@@ -66,7 +66,7 @@ fn span_of(values: &[u64]) -> Span {
         divisor: 0,
     };
     for i in 0..values.len() as u64 {
-        s = with_value(s, bytes::value(values, i));
+        s = with_value(s, first, bytes::value(values, i));
     }
     s
 }

@@ -1,7 +1,7 @@
--- A quotient guessed by products: never too great, so what is left decides. Assumes nothing.
-use Rattle.format.specs.Kit.{_≡_, refl, sym, ap, _∙_, Bool, true, false, ℕ, _+_, _*_, _/_, _≤_, _<_, mul-assoc, mul-comm, mul-le-mul}
-use Rattle.format.specs.Kit.{mul-le-mul-right, mul-le-mul-left, add-mul, one-mul, le-div-iff-mul-le, div-lt-iff-lt-mul, leb, leb-true, leb-false}
-use Rattle.format.specs.Kit.{le-leb, lt-leb, arith, digits-div}
+-- A quotient guessed by products: never too great and at most 1 too small, so what is left decides. Assumes nothing.
+use Rattle.format.specs.Kit.{_≡_, refl, sym, ap, _∙_, _⊎_, ⊎-elim, Bool, true, false, ℕ, _+_, _-_, _*_, _/_, _≤_, _<_, mul-assoc, mul-comm}
+use Rattle.format.specs.Kit.{mul-le-mul, mul-le-mul-right, mul-le-mul-left, add-mul, mul-add, one-mul, le-div-iff-mul-le, div-lt-iff-lt-mul, leb}
+use Rattle.format.specs.Kit.{leb-true, leb-false, le-leb, lt-leb, arith, digits-div}
 use Rattle.format.specs.Values.{gcd}
 use Rattle.format.proofs.Gcd.{gcd-multiple}
 use Rattle.scaling.specs.Reciprocal.{Reciprocal}
@@ -21,6 +21,26 @@ module _ (x m d : ℕ) (p : Reciprocal d m) where
   pub guess-fits : x < 4294967296 → x * m < 18446744073709551616
   guess-fits l = omega (arith, mul-le-mul-left x (p .small))
 
+  -- and with two more, beyond it
+  pub guess-near : x < 4294967296 → 0 < d → x < x * m / 4294967296 * d + (d + d)
+  guess-near l h =
+      let q : ℕ = x * m / 4294967296 in
+      let a : (x * m + 1) * d ≤ (q + 1) * 4294967296 * d = mul-le-mul-right d (omega arith) in
+      let b : x * 4294967297 ≤ x * (m * d + d) = mul-le-mul-left x (omega (arith, p .near h)) in
+      let c : x * d ≤ 4294967295 * d = mul-le-mul-right d (omega arith) in
+      omega (
+        arith,
+        add-mul (x * m) 1 d,
+        add-mul q 1 d,
+        one-mul d,
+        mul-add x (m * d) d,
+        mul-assoc x m d,
+        mul-assoc (q + 1) 4294967296 d ∙ ap (λ (y : ℕ). (q + 1) * y) (mul-comm 4294967296 d) ∙ sym (mul-assoc (q + 1) d 4294967296),
+      )
+
+pub reciprocal-zero : Reciprocal 0 0
+reciprocal-zero = record { product = omega arith; small = omega arith; near = λ h. absurd (omega arith) }
+
 -- x is q times d, and less than d more
 pub over-is : (x d q r : ℕ) → x ≡ q * d + r → r < d → q ≡ x / d
 over-is x d q r e l = sym (ap (λ (y : ℕ). y / d) e ∙ digits-div q l)
@@ -29,9 +49,13 @@ pub next-over : (x d q r : ℕ) → x ≡ q * d + (d + r) → r < d → q + 1 �
 next-over x d q r e l =
     over-is x d (q + 1) r (let t : (q + 1) * d ≡ q * d + 1 * d = add-mul q 1 d in let o : 1 * d ≡ d = one-mul d in omega arith) l
 
-pub gcd-of-next : (g x q : ℕ) → x ≡ q * g + g → g ≡ gcd g x
+gcd-of-next : (g x q : ℕ) → x ≡ q * g + g → g ≡ gcd g x
 gcd-of-next g x q e =
     gcd-multiple g x (q + 1) (let t : (q + 1) * g ≡ q * g + 1 * g = add-mul q 1 g in let o : 1 * g ≡ g = one-mul g in omega arith)
+
+-- what is left is 0, or g
+pub gcd-of-left : (g x q r : ℕ) → q * g ≤ x → (r ≡ x - q * g) ⊎ (r + g ≡ x - q * g) → r ≡ 0 → g ≡ gcd g x
+gcd-of-left g x q r h s z = ⊎-elim (λ e. gcd-multiple g x q (omega arith)) (λ e. gcd-of-next g x q (omega arith)) s
 
 -- ---- a product's room
 

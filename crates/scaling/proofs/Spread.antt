@@ -1,12 +1,24 @@
--- What is worked out of the biased ends is the values' scale. Assumes nothing.
-use Rattle.format.specs.Kit.{_≡_, ap, _∙_, List, ℕ, _-_, _≤_, arith, eq-eqb, ne-eqb, ℤ}
+-- What is worked out of the biased forms is the values' scale. Assumes nothing.
+use Rattle.format.specs.Kit.{_≡_, sym, ap, _∙_, List, ℕ, _-_, _≤_, _<_, arith, eq-eqb, ne-eqb, T, ℤ, pos, length, getD, leZ}
 use Rattle.format.specs.HeaderNumbers.{zigzag}
-use Rattle.format.specs.Values.{smallest, greatest, over, spread, gcdOf, divisor}
+use Rattle.format.specs.Values.{smallest, greatest, over, spread, gcdFrom, differences, divisor}
 use Rattle.format.specs.Pairs.{Each, Fits}
+use Rattle.format.proofs.Values.{each-at, smallest-each}
 use Rattle.format.proofs.Fits.{fits-size, smallest-fits, greatest-fits}
 use Rattle.signed.specs.Sign.{biased, unbiased}
-use Rattle.signed.proofs.Signs.{biased-over, unbiased-biased}
+use Rattle.signed.proofs.Signs.{biased-le, biased-over, unbiased-biased}
 use Rattle.scaling.specs.Scaled.{EndsOf}
+
+module _ (vs : List ℤ) (t : Each Fits vs) (i : ℕ) (h : i < length vs) where
+  -- no value is below the smallest
+  pub low-le : biased (smallest vs) ≤ biased (getD vs i (pos 0))
+  low-le = biased-le (smallest vs) (getD vs i (pos 0)) (each-at (λ v. T (leZ (smallest vs) v)) vs i (pos 0) (smallest-each vs) h)
+
+  -- and its difference to the smallest is that of the biased forms
+  pub over-at : (b l : ℕ) → b ≡ biased (getD vs i (pos 0)) → l ≡ biased (smallest vs) → b - l ≡ over (smallest vs) (getD vs i (pos 0))
+  over-at b l eb el =
+      rw (eb, el)
+      (sym (biased-over (smallest vs) (getD vs i (pos 0)) (fits-size _ (smallest-fits vs t)) (fits-size _ (each-at Fits vs i (pos 0) t h)) low-le))
 
 -- the spread is the difference of the biased ends
 pub spread-is : {vs : List ℤ} {l h : ℕ} → EndsOf vs l h → h - l ≡ spread vs
@@ -21,7 +33,7 @@ pub divisor-equal : (vs : List ℤ) → spread vs ≡ 0 → 1 ≡ divisor vs
 unfolding divisor
 divisor-equal vs e = rw (eq-eqb (spread vs) 0 e)
 
-pub divisor-else : (vs : List ℤ) → (spread vs ≡ 0 → ⊥) → gcdOf 0 vs ≡ divisor vs
+pub divisor-else : (vs : List ℤ) → (spread vs ≡ 0 → ⊥) → gcdFrom 0 (differences vs) ≡ divisor vs
 unfolding divisor
 divisor-else vs e = rw (ne-eqb (spread vs) 0 e)
 

@@ -1,13 +1,16 @@
-// One smallest value and one divisor for all values (document 01, "Value section"): what they are, the number stored of a value, and
-// the value of a stored number. How stored numbers are packed is left open. Values are worked on in their biased form, so that no
-// sum or difference has a sign.
+// One smallest value and one divisor for all values (document 01, "Value section"; document 02, [2]): what they are, the number stored
+// of a value, and the value of a stored number. How stored numbers are packed is left open. Values are worked on in their biased form,
+// so that no sum or difference has a sign.
 ghost use mathlib.Core.Path.{_≡_};
+ghost use mathlib.Core.Logic.{_⊎_};
 ghost use Prim.Native.Nat.{_+_, _-_, _*_, _/_, _≤_, _<_, min, max};
 ghost use lib.Dec.{leb};
 ghost use Rattle.format.specs.HeaderNumbers.{unzigzag};
-ghost use Rattle.format.specs.Values.{spread, gcd, gcdOf, divisor, valueAt};
+ghost use Rattle.format.specs.Values.{smallest, spread, gcd, gcdFrom, differences, divisor, valueAt};
+ghost use Rattle.format.specs.Pairs.{Each, Fits};
 ghost use Rattle.format.specs.Codec.{signed64};
 ghost use Rattle.format.specs.Replies.{fetchedOf};
+ghost use Rattle.signed.specs.Sign.{biased};
 ghost use Rattle.scaling.specs.Scaled.{EndsOf, Scaled};
 ghost use Rattle.scaling.specs.Reciprocal.{Reciprocal};
 use format::Fetched;
@@ -99,32 +102,45 @@ pub fn renewed(m: u64, g: u64, h: u64) -> u64
     if h == g { m } else { reciprocal(h) }
 }
 
-// The greatest common divisor; without a division if it is g.
+// What a guess left, or d less where that is d or more. Both come as often, so this is a choice and no jump; and so in `raised`.
+fn reduced(left: u64, d: u64) -> u64
+    ensures { λ r. ⌜ (r ≡ left) ⊎ (r + d ≡ left) ⌝ }
+{
+    if left < d { left } else { left - d }
+}
+
+// The greatest common divisor; if it is g, without a division or by one.
 pub fn common(g: u64, m: u64, x: u64) -> u64
     requires { ⌜ Reciprocal g m ⌝ }
     ensures { λ r. ⌜ r ≡ gcd g x ⌝ }
 {
     if x < SMALL {
-        let r = x - ((x * m) >> 32) * g;
-        if r == 0 {
-            return g;
-        }
-        if r == g {
+        if reduced(x - ((x * m) >> 32) * g, g) == 0 {
             return g;
         }
     }
-    gcd(g, x)
+    gcd(x, g)
 }
 
-// Of the values taken without sign. Once it is 1 it stays so.
-pub fn gcd_of(values: &[i64]) -> u64
-    ensures { λ r. ⌜ r ≡ gcdOf 0 (now (values .entry)) ⌝ }
+// The difference of two values in their biased forms: exact, up to 2^64 - 1.
+fn over(low: u64, b: u64) -> u64
+    requires { ⌜ low ≤ b ⌝ }
+    ensures { λ r. ⌜ r ≡ b - low ⌝ }
+{
+    b - low
+}
+
+// The greatest common divisor of the differences, here those to the smallest value: it is the same, and none of them has a sign. Once
+// it is 1 it stays so.
+fn gcd_of(values: &[i64], low: u64) -> u64
+    requires { ⌜ (low ≡ biased (smallest (now values))) × Each Fits (now values) ⌝ }
+    ensures { λ r. ⌜ r ≡ gcdFrom 0 (differences (now (values .entry))) ⌝ }
 {
     let mut g: u64 = 0;
     let mut m: u64 = 0;
     let mut i = 0;
     while i < values.len() {
-        let h = common(g, m, signed::magnitude(values[i]));
+        let h = common(g, m, over(low, signed::biased(values[i])));
         if h == 1 {
             return 1;
         }
@@ -135,20 +151,12 @@ pub fn gcd_of(values: &[i64]) -> u64
     g
 }
 
-// max - min, in the biased forms.
-fn spread_of(low: u64, high: u64) -> u64
-    requires { ⌜ low ≤ high ⌝ }
-    ensures { λ r. ⌜ r ≡ high - low ⌝ }
-{
-    high - low
-}
-
 // The divisor: 1 if all values are equal, or there is none.
-fn divisor_of(values: &[i64], gap: u64) -> u64
-    requires { ⌜ gap ≡ spread (now values) ⌝ }
+fn divisor_of(values: &[i64], low: u64, gap: u64) -> u64
+    requires { ⌜ (low ≡ biased (smallest (now values))) × (gap ≡ spread (now values)) × Each Fits (now values) ⌝ }
     ensures { λ r. ⌜ r ≡ divisor (now (values .entry)) ⌝ }
 {
-    if gap == 0 { 1 } else { gcd_of(values) }
+    if gap == 0 { 1 } else { gcd_of(values, low) }
 }
 
 // The scale of the values.
@@ -157,8 +165,8 @@ pub fn scale_of(values: &[i64]) -> Scale
 {
     let ends = ends_of(values);
     let low = ends.low;
-    let gap = spread_of(low, ends.high);
-    let divisor = divisor_of(values, gap);
+    let gap = over(low, ends.high);
+    let divisor = divisor_of(values, low, gap);
     let smallest = signed::number_of(low);
     let most = gap / divisor;
     Scale {
@@ -166,6 +174,14 @@ pub fn scale_of(values: &[i64]) -> Scale
         divisor,
         most,
     }
+}
+
+// x / d, where x is q times d and that much more.
+fn raised(q: u64, left: u64, d: u64) -> u64
+    requires { ⌜ (q < 4294967296) × (left < d + d) ⌝ }
+    ensures { λ r. ⌜ r ≡ (q * d + left) / d ⌝ }
+{
+    if left < d { q } else { q + 1 }
 }
 
 // x / d; m is the reciprocal of d. Most columns have divisor 1, and a division is slow.
@@ -178,13 +194,7 @@ pub fn quotient(x: u64, d: u64, m: u64) -> u64
     }
     if x < SMALL {
         let q = (x * m) >> 32;
-        let r = x - q * d;
-        if r < d {
-            return q;
-        }
-        if r - d < d {
-            return q + 1;
-        }
+        return raised(q, x - q * d, d);
     }
     x / d
 }

@@ -1,7 +1,7 @@
 -- Laws of the biased form: it is another way to write a signed number of 64 bits; order, differences and sums are the same in it.
 -- Assumes nothing.
 use Rattle.format.specs.Kit.{_≡_, ap, _∙_, not, ℕ, zero, suc, _+_, _-_, _^_, _<_, _≤_, add-sub-cancel-left, arith, decLt, lt-ltb, le-ltb, T, leb→le}
-use Rattle.format.specs.Kit.{nleb→lt, ℤ, pos, negsuc, natAbs, subℕ, _+ℤ_, mag, leZ}
+use Rattle.format.specs.Kit.{nleb→lt, ℤ, pos, negsuc, subℕ, _+ℤ_, mag, leZ}
 use mir.Syntax.{w64}
 use mir.Val.{toZ, ofZ}
 use mir.Facts.{toZ-ofZ}
@@ -29,15 +29,6 @@ biased-unbiased x = by (decLt x (2 ^ 63))
     by : Dec (x < 2 ^ 63) → biased (unbiased x) ≡ x
     by (yes h) = rw (un-low x h) (omega arith)
     by (no f) = let h : 2 ^ 63 ≤ x = omega arith in rw (un-high x h) (omega arith)
-
--- the magnitude, worked out from the biased form
-pub magnitude-low : (z : ℤ) (b : ℕ) → mag z < 2 ^ 63 → b ≡ biased z → b < 2 ^ 63 → 2 ^ 63 - b ≡ natAbs z
-magnitude-low (pos n) b f e h = omega arith
-magnitude-low (negsuc n) b f e h = omega arith
-
-pub magnitude-high : (z : ℤ) (b : ℕ) → mag z < 2 ^ 63 → b ≡ biased z → 2 ^ 63 ≤ b → b - 2 ^ 63 ≡ natAbs z
-magnitude-high (pos n) b f e h = omega arith
-magnitude-high (negsuc n) b f e h = omega arith
 
 -- a difference of whole numbers, by their order
 sub-yes : (a b : ℕ) → a < b → subℕ a b ≡ negsuc (b - suc a)

@@ -1,6 +1,5 @@
 // Signed numbers as numbers without sign. `biased` and `unbiased` alone compute with signed numbers.
 ghost use mathlib.Core.Path.{_≡_};
-ghost use lib.IntN.{natAbs};
 ghost use Rattle.format.specs.HeaderNumbers.{zigzag, unzigzag};
 ghost use Rattle.signed.specs.Sign.{biased, unbiased};
 
@@ -51,12 +50,4 @@ pub fn number_of(b: u64) -> u64
     } else {
         (b - HALF) * 2
     }
-}
-
-// v without its sign.
-pub fn magnitude(v: i64) -> u64
-    ensures { λ r. ⌜ r ≡ natAbs v ⌝ }
-{
-    let b = biased(v);
-    if b < HALF { HALF - b } else { b - HALF }
 }

@@ -67,8 +67,8 @@ pub struct Input {
 }
 
 impl Input {
-    /// Whole blocks, until there are at least so many pairs; stored numbers of so many bits.
-    pub fn new(shape: Shape, pairs: usize, width: u32) -> Self {
+    /// Whole blocks, until there are at least so many pairs.
+    pub fn new(shape: Shape, pairs: usize, values: Values) -> Self {
         let mut random = Random(7);
         let mut ids = Vec::new();
         for block in 0.. {
@@ -79,7 +79,7 @@ impl Input {
             let places = (0..65_536).filter(|_| (random.next() & 0xFFFF) < listed);
             ids.extend(places.map(|place| (block << 16) | place));
         }
-        let values = values(&mut random, ids.len(), width);
+        let values = values.list(&mut random, ids.len());
         let bytes = signalfern::write_to_vec(&ids, &values, 9).expect("a list of pairs");
         Self {
             shape,
@@ -116,13 +116,63 @@ impl Input {
     }
 }
 
+/// What the values of a column are.
+#[derive(Clone, Copy)]
+pub enum Values {
+    /// Any with stored numbers of so many bits: after two or three of them the divisor is 1.
+    Any(u32),
+    /// Multiples of a step, of 12 bits, with a rest that all of them share: the divisor is the step.
+    Steps { step: i64, rest: i64 },
+    /// The same without a rest, and one more in the last: only there the divisor falls to 1.
+    LastBeside { step: i64 },
+    /// The smallest and the greatest value by turns: divisor 2^64 - 1.
+    Extremes,
+}
+
+impl Values {
+    pub const BY_DIVISOR: [(&str, Self); 6] = [
+        ("any", Self::Any(12)),
+        ("hundreds", Self::Steps { step: 100, rest: 0 }),
+        ("hundreds and 7", Self::Steps { step: 100, rest: 7 }),
+        (
+            "multiples of 2^32 - 5",
+            Self::Steps {
+                step: (1 << 32) - 5,
+                rest: 0,
+            },
+        ),
+        ("hundreds, not the last", Self::LastBeside { step: 100 }),
+        ("smallest and greatest", Self::Extremes),
+    ];
+
+    fn list(self, random: &mut Random, count: usize) -> Vec<i64> {
+        match self {
+            Self::Any(width) => any(random, count, width),
+            Self::Steps { step, rest } => {
+                let numbers = any(random, count, 12).into_iter();
+                numbers.map(|number| number * step + rest).collect()
+            }
+            Self::LastBeside { step } => {
+                let mut values = Self::Steps { step, rest: 0 }.list(random, count);
+                if let Some(last) = values.last_mut() {
+                    *last += 1;
+                }
+                values
+            }
+            Self::Extremes => (0..count)
+                .map(|index| [i64::MIN, i64::MAX][index % 2])
+                .collect(),
+        }
+    }
+}
+
 /// Values whose differences to the smallest take just so many bits; some are below 0.
-fn values(random: &mut Random, count: usize, width: u32) -> Vec<i64> {
+fn any(random: &mut Random, count: usize, width: u32) -> Vec<i64> {
     let most = u64::MAX.checked_shr(64 - width).unwrap_or(0);
     let smallest = if width < 63 { -900 } else { i64::MIN };
     let value = |difference: u64| smallest.wrapping_add(difference as i64);
-    let mut any = || value((random.next() ^ random.next() << 32) & most);
-    let mut values: Vec<i64> = (0..count).map(|_| any()).collect();
+    let mut next = || value((random.next() ^ random.next() << 32) & most);
+    let mut values: Vec<i64> = (0..count).map(|_| next()).collect();
     if let [first, .., last] = values.as_mut_slice() {
         (*first, *last) = (value(0), value(most));
     }

@@ -12,9 +12,9 @@ mod plot;
 
 use std::process::ExitCode;
 
-use inputs::{Input, Order, Shape, LOOK_UPS};
+use inputs::{Input, Order, Shape, Values, LOOK_UPS};
 use measure::{Table, Times};
-use options::{Effort, Options};
+use options::{Effort, Options, Over};
 
 fn main() -> ExitCode {
     let result = Options::read(std::env::args().skip(1)).and_then(|options| run(&options));
@@ -34,10 +34,11 @@ fn run(options: &Options) -> Result<(), String> {
          ids than the one before; rank power 9.\n",
         effort.runs
     );
-    let table = match (&options.plot, options.widths) {
+    let table = match (&options.plot, &options.over) {
         (Some(file), _) => return growth(effort).save(file),
-        (None, true) => widths(effort),
-        (None, false) => shapes(effort),
+        (None, Over::Shapes) => shapes(effort),
+        (None, Over::Widths) => widths(effort),
+        (None, Over::Divisors) => divisors(effort),
     };
     table.print(options.before.as_ref());
     let mut times = Times::default();
@@ -53,7 +54,7 @@ fn run(options: &Options) -> Result<(), String> {
 fn shapes(effort: &Effort) -> Table {
     let mut table = Table::new("column");
     for shape in Shape::EACH {
-        let input = Input::new(shape, effort.pairs, 12);
+        let input = Input::new(shape, effort.pairs, Values::Any(12));
         whole_columns(&mut table, shape.name(), &input, effort.runs);
         for order in [Order::Random, Order::Ascending] {
             let hits = input.hits(effort.look_ups, order);
@@ -71,11 +72,21 @@ fn shapes(effort: &Effort) -> Table {
 fn widths(effort: &Effort) -> Table {
     let mut table = Table::new("width");
     for width in [0, 1, 7, 8, 12, 14, 15, 16, 20, 33, 57, 58, 63, 64] {
-        let input = Input::new(Shape::Mixed, effort.pairs, width);
+        let input = Input::new(Shape::Mixed, effort.pairs, Values::Any(width));
         let name = width.to_string();
         whole_columns(&mut table, &name, &input, effort.runs);
         let ids = input.hits(effort.look_ups, Order::Random);
         look_ups(&mut table, &name, "random hits", &input, &ids, effort.runs);
+    }
+    table
+}
+
+/// The calls on whole columns with blocks of every kind, by what the divisor of the values does.
+fn divisors(effort: &Effort) -> Table {
+    let mut table = Table::new("values");
+    for (name, values) in Values::BY_DIVISOR {
+        let input = Input::new(Shape::Mixed, effort.pairs, values);
+        whole_columns(&mut table, name, &input, effort.runs);
     }
     table
 }
@@ -103,7 +114,7 @@ fn growth(effort: &Effort) -> plot::Drawing {
     let (mut read, mut check) = (plot::Line::new("read"), plot::Line::new("check"));
     let mut look_up = plot::Line::new("look-up, opened");
     for &pairs in effort.growth {
-        let input = Input::new(Shape::Mixed, pairs, 12);
+        let input = Input::new(Shape::Mixed, pairs, Values::Any(12));
         let n = input.ids.len() as f64;
         let ids = input.hits(effort.look_ups, Order::Random);
         read.add(n, calls::read(&input, runs).proved);
@@ -128,7 +139,7 @@ fn growth(effort: &Effort) -> plot::Drawing {
     ] {
         let mut line = line;
         for &pairs in effort.growth {
-            let input = Input::new(shape, pairs, width);
+            let input = Input::new(shape, pairs, Values::Any(width));
             line.add(input.bytes.len() as f64, calls::check(&input, runs).proved);
         }
         by_bytes.add(line);

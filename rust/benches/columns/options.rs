@@ -31,11 +31,17 @@ const SMALL: Effort = Effort {
     growth: &[32_000, 65_000],
 };
 
+/// What the lines of the table differ in.
+pub enum Over {
+    Shapes,
+    Widths,
+    Divisors,
+}
+
 /// What stood on the command line.
 pub struct Options {
     pub effort: Effort,
-    /// Only the table over the widths of stored numbers.
-    pub widths: bool,
+    pub over: Over,
     /// Only the measurements of growth, drawn into this file.
     pub plot: Option<PathBuf>,
     /// Where the proved calls' times go.
@@ -49,7 +55,7 @@ impl Options {
     pub fn read(words: impl Iterator<Item = String>) -> Result<Self, String> {
         let mut options = Self {
             effort: SMALL,
-            widths: false,
+            over: Over::Shapes,
             plot: None,
             save: None,
             before: None,
@@ -60,7 +66,8 @@ impl Options {
             match word.as_str() {
                 // `cargo bench` says so; `cargo test` does not.
                 "--bench" => options.effort = FULL,
-                "--widths" => options.widths = true,
+                "--widths" => options.over = Over::Widths,
+                "--divisors" => options.over = Over::Divisors,
                 "--plot" => options.plot = Some(value()?.into()),
                 "--save" => options.save = Some(value()?.into()),
                 "--beside" => options.before = Some(Times::read(value()?.as_ref())?),
@@ -71,8 +78,9 @@ impl Options {
     }
 }
 
-const USAGE: &str = "cargo bench --bench columns -- [--widths | --plot FILE.svg] \
+const USAGE: &str = "cargo bench --bench columns -- [--widths | --divisors | --plot FILE.svg] \
 [--save FILE] [--beside FILE]
   --widths       the calls at each width of stored numbers in place of each kind of block
+  --divisors     the calls on values with large and small divisors
   --plot FILE    how look-up, check and reading grow with the pairs and with the bytes, drawn
   --save FILE    keep the times; --beside FILE sets such times, of another revision, beside these";

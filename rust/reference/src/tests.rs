@@ -1,6 +1,8 @@
 //! The reference against a writer so plain that it can be read beside the document, and against
 //! the pair list itself.
 
+mod divisor;
+
 use std::collections::BTreeMap;
 
 use super::*;
@@ -63,7 +65,8 @@ fn plain_column(pairs: &BTreeMap<u32, i64>, power: u32) -> Vec<u8> {
     let greatest = exact.iter().copied().max().unwrap_or(0);
     let mut divisor = 1;
     if smallest != greatest {
-        divisor = exact.iter().fold(0, |a, &v| plain_gcd(a, v.unsigned_abs()));
+        let differences = exact.iter().map(|v| (v - exact[0]).unsigned_abs());
+        divisor = differences.fold(0, plain_gcd);
     }
     let spread = (greatest - smallest) as u128 / divisor;
     let width = (0..).find(|&w| spread < 1 << w).unwrap_or(0);
@@ -136,10 +139,15 @@ fn some_pairs(random: &mut Random) -> BTreeMap<u32, i64> {
         }
         ids.extend(places[..count].iter().map(|x| (number << 16) | x));
     }
-    let step = [1, 5, 1 << 20, i64::MAX][random.below(4) as usize];
-    let width = random.below(64);
+    // Any values; or multiples of a step, with a rest that all of them share.
+    let step = [1, 5, 1 << 20, 3 << 30][random.below(4) as usize];
+    let width = match step {
+        1 => random.below(64),
+        _ => 32 + random.below(32),
+    };
+    let rest = random.below(step as u64) as i64;
     ids.into_iter()
-        .map(|id| (id, (random.next() as i64 >> width).wrapping_mul(step)))
+        .map(|id| (id, (random.next() as i64 >> width) * step + rest))
         .collect()
 }
 

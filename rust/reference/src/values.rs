@@ -25,7 +25,7 @@ impl Plan {
                 width: 0,
             };
         }
-        let divisor = divisor(values.iter().copied());
+        let divisor = divisor(values);
         let most = greatest.abs_diff(smallest) / divisor;
         Self {
             smallest,
@@ -49,11 +49,12 @@ impl Plan {
     }
 }
 
-/// The greatest common divisor of the values taken without sign; 0 if there is none but 0.
-fn divisor(values: impl Iterator<Item = i64>) -> u64 {
+/// The greatest common divisor of each value's difference to the first value (document 02, [2]); 0
+/// if all are equal. A difference without its sign is below 2^64, so none is too great.
+fn divisor(values: &[i64]) -> u64 {
     let mut divisor = 0;
     for value in values {
-        divisor = gcd(divisor, value.unsigned_abs());
+        divisor = gcd(divisor, value.abs_diff(values[0]));
         if divisor == 1 {
             break;
         }
@@ -143,7 +144,10 @@ pub(crate) fn sound(column: &Column, section: &[u8]) -> bool {
     let spare_clear = section
         .last()
         .is_none_or(|last| last & ((1 << spare) - 1) == 0);
+    // A value that wraps is above the greatest one that fits: `value_of` tells below.
     let smallest = column.smallest();
+    let value = |stored| smallest.wrapping_add_unsigned(column.divisor.wrapping_mul(stored));
+    let first = value(fetch(section, width, 0));
     let (mut low, mut high) = (u64::MAX, 0);
     let mut divisor = 0;
     for i in 0..count {
@@ -151,9 +155,7 @@ pub(crate) fn sound(column: &Column, section: &[u8]) -> bool {
         low = low.min(stored);
         high = high.max(stored);
         if divisor != 1 {
-            // A value that wraps is above the greatest one that fits: `value_of` tells below.
-            let value = smallest.wrapping_add_unsigned(column.divisor.wrapping_mul(stored));
-            divisor = gcd(divisor, value.unsigned_abs());
+            divisor = gcd(divisor, value(stored).abs_diff(first));
         }
     }
     spare_clear

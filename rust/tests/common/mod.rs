@@ -77,14 +77,23 @@ pub fn few_ids(random: &mut Random, most: usize) -> Vec<u32> {
     ids
 }
 
-/// Values whose stored numbers have about the given width.
+/// Values whose stored numbers have about the given width. They are multiples of a step, often with a
+/// rest that all of them share, which takes none past the limits.
 pub fn values_of_width(random: &mut Random, count: usize, width: u32) -> Vec<i64> {
-    let step = random.pick(&[1, 1, 2, 5, 1000]);
+    let (step, rests) = random.pick(&[(1, 1), (1, 1), (2, 2), (5, 3), (1000, 800)]);
+    let rest = random.below(rests) as i64;
     let low = random.pick(&[0, 0, 7, -9, 1 << 40, i64::MIN, i64::MAX]);
     (0..count)
         .map(|_| {
             let stored = random.next().checked_shr(64 - width).unwrap_or(0);
-            low.wrapping_add_unsigned(stored.wrapping_mul(step)) / step as i64 * step as i64
+            low.wrapping_add_unsigned(stored.wrapping_mul(step)) / step as i64 * step as i64 + rest
         })
+        .collect()
+}
+
+/// Bytes from their hexadecimal digits.
+pub fn bytes(hex: &str) -> Vec<u8> {
+    hex.split_whitespace()
+        .map(|byte| u8::from_str_radix(byte, 16).unwrap())
         .collect()
 }

@@ -86,6 +86,27 @@ impl Parts {
         parts.bytes()
     }
 
+    /// The stored numbers of a sound column, taken bit by bit.
+    pub fn stored(&self) -> Vec<u64> {
+        let width = self.numbers[WIDTH] as usize;
+        let bit = |j: usize| u64::from(self.values[j / 8] >> (7 - j % 8) & 1);
+        let number = |i: usize| (i * width..(i + 1) * width).fold(0, |sum, j| sum << 1 | bit(j));
+        (0..self.numbers[COUNT] as usize).map(number).collect()
+    }
+
+    /// Puts other stored numbers, as many, at the least width that takes them.
+    pub fn store(&mut self, stored: &[u64]) {
+        let most = stored.iter().fold(0, |most, &number| most.max(number));
+        let width = (u64::BITS - most.leading_zeros()) as usize;
+        self.values = vec![0; (stored.len() * width).div_ceil(8)];
+        for j in 0..stored.len() * width {
+            let bit = stored[j / width] >> (width - 1 - j % width) & 1;
+            self.values[j / 8] |= (bit as u8) << (7 - j % 8);
+        }
+        self.numbers[WIDTH] = width as u64;
+        self.numbers[VALUE_BYTES] = self.values.len() as u64;
+    }
+
     /// The start, the number and the count of each block of a sound column.
     pub fn blocks(&self) -> Vec<(usize, u32, usize)> {
         let short = |at: usize| u32::from(u16::from_le_bytes([self.ids[at], self.ids[at + 1]]));

@@ -10,10 +10,10 @@ use Rattle.plain_check.proofs.numbers_ok.Statement.{statement}
 use Rattle.plain_check.proofs.numbers_ok.Tie as tie
 
 abbrev Inv-loop : tie.InvT-loop
-Inv-loop s n fields d w top most sure lo₀ hi₀ g₀ m₀ i₀ at₀ skip₀ lo hi g m i at skip = Turn n (fieldsOf fields) s d lo hi g m i at skip
+Inv-loop s n fields w top most sure lo₀ hi₀ g₀ m₀ i₀ at₀ skip₀ lo hi g m i at skip = Turn n (fieldsOf fields) s lo hi g m i at skip
 
 abbrev μ-loop : tie.MeasureT-loop
-μ-loop s n fields d w top most sure lo₀ hi₀ g₀ m₀ i₀ at₀ skip₀ lo hi g m i at skip = n - i
+μ-loop s n fields w top most sure lo₀ hi₀ g₀ m₀ i₀ at₀ skip₀ lo hi g m i at skip = n - i
 
 -- ---- before the loop
 
@@ -24,7 +24,7 @@ sizes : (q : tie.After-pow2 Inv-loop μ-loop) → let a = q .before .before .arg
 sizes q = let st = q .before .before in record { high = q .pow2 .ensures; facts = rules st; wide = st .pre .1 }
 
 abbrev made : (l : tie.At-loop Inv-loop μ-loop) → tie.After-pow2 Inv-loop μ-loop
-made l = l .before .before .before
+made l = l .before .before
 
 pow2-requires : tie.Need-pow2-requires Inv-loop μ-loop
 pow2-requires c κs = omega (arith, c .before .pre .1, rules (c .before) .narrow)
@@ -38,7 +38,7 @@ add-most c =
     omega (arith, most-is (sizes c), pow-mono {i = st .args .fields .width} {j = 64} (rules st .narrow))
 
 loop-holds : tie.Need-loop-holds Inv-loop μ-loop
-loop-holds c = first (sizes (c .before .before)) (c .reciprocal .ensures)
+loop-holds c = first (sizes (c .before))
 
 -- ---- a turn
 
@@ -70,7 +70,7 @@ add-i c = omega (arith, c .before .before .before .before .before .loop-test .ta
 
 turned : (r : tie.After-renewed Inv-loop μ-loop) → let l = r .before .before .before .before .before .before in
     let a = made l .before .before .args in
-    Turn (a .n) (fieldsOf (a .fields)) (a .s .now) (a .d) (r .before .before .before .smaller .result)
+    Turn (a .n) (fieldsOf (a .fields)) (a .s .now) (r .before .before .before .smaller .result)
     (r .before .before .larger .result) (r .before .common .result) (r .renewed .result) (l .loop .i + 1)
     (l .loop .at + (l .loop .skip + a .fields .width) / 8) (bitAnd (l .loop .skip + a .fields .width) 7)
 turned r =
@@ -85,7 +85,7 @@ returns c =
     let l = r .before .before .before .before .before .before in
     let q = made l in
     let small : q .before .before .args .fields .smallest < 2 ^ 64 = q .before .before .good .1 .1 .0 .1 .1 .1 .0 .1 in
-    stops (sizes q) (turned r) small (l .before .before .fits2 .ensures) (c .before .settled .ensures) (c .if1 .taken)
+    stops (sizes q) (turned r) small (l .before .fits2 .ensures) (c .before .settled .ensures) (c .if1 .taken)
 
 loop-less : tie.Need-loop-less Inv-loop μ-loop
 loop-less c = omega (arith, c .before .before .before .before .before .before .before .loop-test .taken)
@@ -119,7 +119,6 @@ numbers-ok-spec =
     sub-most
     add-most
     (λ c κs. rules (c .before .before) .positive)
-    (λ c κs. search needs)
     loop-holds
     next-of-requires
     add-next

@@ -12,7 +12,8 @@ use Rattle.packing.proofs.Stream.{Streamed, streamed-none, streamed-acc, stream
 use Rattle.signed.specs.Sign.{biased}
 use Rattle.signed.proofs.Signs.{read-back}
 use Rattle.plain_values.proofs.Facts.{FieldsOf, fields-are}
-use Rattle.plain_values.proofs.Store.{low-le, stored-at, stored-small, length-section, section-is}
+use Rattle.scaling.proofs.Spread.{low-le}
+use Rattle.plain_values.proofs.Store.{stored-at, stored-small, length-section, section-is}
 use Rattle.plain_values.proofs.put.Statement.{statement}
 use Rattle.plain_values.proofs.put.Tie as tie
 

@@ -1,6 +1,6 @@
--- `scaling::quotient` meets its contract: the guess is never too great, so what it leaves decides. Assumes nothing.
-use Rattle.format.specs.Kit.{sym, ap, _∙_, ℕ, _-_, _*_, _/_, _≤_, div-one, arith, needs}
-use Rattle.scaling.proofs.Guess.{guess-le, guess-fits, over-is, next-over}
+-- `scaling::quotient` meets its contract: the guess is never too great and at most 1 too small. Assumes nothing.
+use Rattle.format.specs.Kit.{_≡_, sym, ap, _∙_, ℕ, _+_, _-_, _*_, _/_, _≤_, div-one, arith, needs}
+use Rattle.scaling.proofs.Guess.{guess-le, guess-fits, guess-near}
 use Rattle.scaling.proofs.quotient.Statement.{statement}
 use Rattle.scaling.proofs.quotient.Tie as tie
 
@@ -15,29 +15,27 @@ returns c =
 mul-q : tie.Need-mul-q
 mul-q c = let s = c .before .before in record { fits = guess-fits (s .args .x) (s .args .m) (s .args .d) (s .pre .1) (c .if2 .taken) }
 
-mul-r : tie.Need-mul-r
-mul-r c = omega (arith, guessed c)
+mul-raised : tie.Need-mul-raised
+mul-raised c = omega (arith, guessed c)
 
-sub-r : tie.Need-sub-r
-sub-r c = omega (arith, guessed c)
+sub-raised : tie.Need-sub-raised
+sub-raised c = omega (arith, guessed c)
+
+raised-requires : tie.Need-raised-requires
+raised-requires c κs =
+    let s = c .before .before in
+    let a = s .args in (
+      omega (arith, guess-fits (a .x) (a .m) (a .d) (s .pre .1) (c .if2 .taken)),
+      omega (arith, guess-near (a .x) (a .m) (a .d) (s .pre .1) (c .if2 .taken) (s .pre .0)),
+    )
 
 returns-2 : tie.Need-returns-2
 returns-2 c =
     let a = c .before .before .before .args in
     let q : ℕ = a .x * a .m / 4294967296 in
-    over-is (a .x) (a .d) q (a .x - q * a .d) (omega (arith, guessed (c .before))) (c .if3 .taken)
-
-add-result : tie.Need-add-result
-add-result c =
-    let s = c .before .before .before .before in
-    omega (arith, guess-fits (s .args .x) (s .args .m) (s .args .d) (s .pre .1) (c .before .before .if2 .taken))
-
-returns-3 : tie.Need-returns-3
-returns-3 c =
-    let a = c .before .before .before .before .args in
-    let q : ℕ = a .x * a .m / 4294967296 in
-    next-over (a .x) (a .d) q (a .x - q * a .d - a .d) (omega (arith, guessed (c .before .before), c .before .if3 .left)) (c .if4 .taken)
+    let e : q * a .d + (a .x - q * a .d) ≡ a .x = omega (arith, guessed (c .before)) in
+    c .raised .ensures ∙ ap (λ (y : ℕ). y / a .d) e
 
 pub quotient-spec : {M : Type 1} → statement M
 quotient-spec =
-    tie.close (tie.spec returns mul-q mul-r sub-r returns-2 add-result returns-3 (λ c. search needs) (λ c. search needs))
+    tie.close (tie.spec returns mul-q mul-raised sub-raised raised-requires returns-2 (λ c. search needs) (λ c. search needs))

@@ -7,7 +7,9 @@ use Rattle.scaling.proofs.scale_of.Statement.{statement}
 use Rattle.scaling.proofs.scale_of.Tie as tie
 
 divisor-of-requires : tie.Need-divisor-of-requires
-divisor-of-requires c κs = c .spread-of .ensures ∙ spread-is (c .before .ends-of .ensures)
+divisor-of-requires c κs =
+    let ends = c .before .ends-of .ensures in
+    (ends .low, c .over .ensures ∙ spread-is ends, ends .fit)
 
 div-most : tie.Need-div-most
 div-most c =
@@ -17,7 +19,7 @@ div-most c =
 returns : tie.Need-returns
 returns c =
     let g = c .before .divisor-of in
-    let d = c .before .before .spread-of in
+    let d = c .before .before .over in
     let ends = c .before .before .before .ends-of .ensures in
     let vs = c .before .before .before .before .args .values .now in
     record {

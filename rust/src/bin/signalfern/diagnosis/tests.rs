@@ -187,42 +187,50 @@ fn places_are_named() {
 
 #[test]
 fn values_that_cannot_be() {
-    let header_of = |bytes: &[u8]| Header::parse(bytes).unwrap();
-    // Stored 3, 1, 0 at width 2.
+    // Stored 3, 1, 0 at width 2, in byte 26; w stands at byte 5, the smallest value at 6, g at 8.
     let column = signalfern::write_to_vec(&[0, 2, 7], &[150, 140, 135], 9).unwrap();
-    let last = column.len() - 1;
-    for (byte, words) in [
-        (0xD1, "spare bits after the last value: D1"),
+    for (byte, place, words) in [
+        (0xD1, 26, "spare bits after the last value: D1"),
+        // Stored 3, 1, 1; then 0, 1, 0.
         (
             0xD4,
+            6,
             "smallest value in the header: 135, and no value is so small",
         ),
         (
             0x10,
+            5,
             "width (w) in the header: 2, and the greatest stored, 1, needs 1 bits",
+        ),
+        // Stored 2, 0, 2; then 3, 0, 0.
+        (
+            0x88,
+            26,
+            "stored numbers: 2 divides them all, so the writer would give divisor 10 and not 5",
+        ),
+        (
+            0xC0,
+            26,
+            "stored numbers: 3 divides them all, so the writer would give divisor 15 and not 5",
         ),
     ] {
         let mut bytes = column.clone();
-        bytes[last] = byte;
-        let (_, text) = finding(&bytes);
+        bytes[26] = byte;
+        let (at, text) = finding(&bytes);
+        assert_eq!(at, place, "{text}");
         assert!(text.contains(words), "{text}");
     }
-    let mut bytes = column.clone();
-    let divisor = header_of(&column).starts[7];
-    bytes[divisor] = 7;
-    let (at, text) = finding(&bytes);
-    assert_eq!(at, divisor as u64);
-    assert!(
-        text.contains("greatest common divisor of the values is 1"),
-        "{text}"
-    );
+    // Another divisor makes another column: 156, 142, 135.
+    let mut bytes = column;
+    bytes[8] = 7;
+    assert_eq!(signalfern::check(&bytes), Ok(3));
 }
 
 #[test]
 fn a_value_that_does_not_fit() {
-    // Stored 0, 200, 100 at width 8, and 200 is as much as fits.
+    // Stored 0, 200, 101 at width 8, and 200 is as much as fits.
     let greatest = i64::MAX;
-    let values = [greatest - 200, greatest, greatest - 100];
+    let values = [greatest - 200, greatest, greatest - 99];
     let mut bytes = signalfern::write_to_vec(&[1, 2, 3], &values, 9).unwrap();
     let second = bytes.len() - 2;
     bytes[second] = 201;

@@ -8,7 +8,7 @@ use crate::header::{Header, NAMES};
 struct Summary {
     least: Option<u64>,
     greatest: u64,
-    /// The greatest common divisor of the values without sign.
+    /// Their greatest common divisor.
     divisor: u64,
 }
 
@@ -47,30 +47,25 @@ pub fn find(header: &Header, bytes: &[u8]) -> Option<Finding> {
         let why = format!("{width}, and the greatest stored, {greatest}, needs {needed} bits");
         return in_header(5, why);
     }
-    let real = summary.divisor;
-    let why = format!("{divisor}, and the greatest common divisor of the values is {real}");
-    (real != divisor).then(|| in_header(7, why)).flatten()
+    (summary.divisor != 1).then(|| multiples(header, start, summary.divisor))
 }
 
 /// Passes over all stored numbers; stops at one whose value does not fit in 64 bits.
 fn sum_up(header: &Header, section: &[u8]) -> Result<Summary, (u64, u64)> {
     let mut summary = Summary::default();
-    let (smallest, divisor) = (i128::from(header.smallest()), i128::from(header.divisor));
     let mut stored = Stored::new(section, header.width as u32);
     for index in 0..header.count {
         let Some(number) = stored.next() else {
             break;
         };
-        // At most 2^64 * 2^64, which may leave even i128.
-        let value = (divisor.checked_mul(i128::from(number)))
-            .and_then(|product| product.checked_add(smallest))
-            .and_then(|value| i64::try_from(value).ok());
-        let Some(value) = value else {
+        let offset = header.divisor.checked_mul(number);
+        let value = offset.and_then(|offset| header.smallest().checked_add_unsigned(offset));
+        if value.is_none() {
             return Err((index, number));
-        };
+        }
         summary.least = Some(summary.least.map_or(number, |least| least.min(number)));
         summary.greatest = summary.greatest.max(number);
-        summary.divisor = common_divisor(summary.divisor, value.unsigned_abs());
+        summary.divisor = common_divisor(summary.divisor, number);
     }
     Ok(summary)
 }
@@ -89,6 +84,20 @@ fn too_great(header: &Header, start: usize, index: u64, stored: u64) -> Finding 
         at,
         part: format!("value {index} (from 0)"),
         why: format!("{smallest} + {divisor} times {stored} does not fit in 64 bits"),
+    }
+}
+
+/// Stored numbers that have a common divisor above 1.
+fn multiples(header: &Header, start: usize, common: u64) -> Finding {
+    let divisor = header.divisor;
+    // At most the greatest value's difference to the smallest, below 2^64.
+    let better = divisor * common;
+    Finding {
+        at: start as u64,
+        part: "stored numbers".to_string(),
+        why: format!(
+            "{common} divides them all, so the writer would give divisor {better} and not {divisor}"
+        ),
     }
 }
 
