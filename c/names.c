@@ -19,9 +19,9 @@ static const struct refusal refusals[] = {
     {"RANGE", "an id is above the greatest allowed, 2147352575"},
     {0, 0}, /* 5 is not used: it was OFFSET, which cannot happen (document 02, [7]) */
     {"ROOM", "the output is too short for the column"},
-    {"SHORT", "the bytes end within the header: the column is empty or cut off"},
+    {"SHORT", "the bytes end within the header: the column is empty or cut off (the number is their count)"},
     {"NUMBER", "a number of the header is not in its shortest form or needs more than 64 bits: "
-               "the header is damaged, or this is no column"},
+               "the header is damaged, or this is no column (the number is the bad byte's place, from 0)"},
     {"EDITION", "the first number is not 1: this is no column, or one of another edition"},
     {"HEADER", "the numbers of the header break a rule (a limit, or sizes that do not agree)"},
     {"LENGTH", "the header tells of more or fewer bytes than there are: the column is cut off or "

@@ -61,8 +61,10 @@ enum {
     SIGNALFERN_RANGE = 4,    /* an id is above SIGNALFERN_MAX_ID; with the first such index */
     /* 5 is not used: it was OFFSET, which cannot happen (document 02, [7]) */
     SIGNALFERN_ROOM = 6,     /* the output is shorter than the column; with the bytes needed */
-    SIGNALFERN_SHORT = 7,    /* the bytes end within a header number */
-    SIGNALFERN_NUMBER = 8,   /* a header number is not minimal, or is 2^64 or more */
+    SIGNALFERN_SHORT = 7,    /* the bytes end within a header number; with the byte count */
+    SIGNALFERN_NUMBER = 8,   /* a header number is not minimal, or is 2^64 or more; with the place,
+                                from 0, of the byte that decided it: the 0 that ends a number of
+                                several bytes, or the tenth byte of one that is not 1 */
     SIGNALFERN_EDITION = 9,  /* the first header number is not 1 */
     SIGNALFERN_HEADER = 10,  /* a header rule is broken */
     SIGNALFERN_LENGTH = 11,  /* header, id section and value section are not the byte count */

@@ -39,6 +39,15 @@ pub struct Column<'a> {
 impl<'a> Column<'a> {
     /// Reads the header.
     ///
+    /// ```
+    /// use signalfern::{Column, Refusal};
+    ///
+    /// // 80 00 where n stands: two bytes, and the last of them is 0.
+    /// let refused = Column::open(&[0x01, 0x80, 0x00, 0x09]).unwrap_err();
+    /// assert_eq!(refused, Refusal::Number { place: 2 });
+    /// assert_eq!(Column::open(&[0x01, 0x80]).unwrap_err(), Refusal::Short { bytes: 2 });
+    /// ```
+    ///
     /// # Errors
     ///
     /// The first that applies of [`Refusal::Short`] and [`Refusal::Number`] (by the first bad

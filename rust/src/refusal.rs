@@ -30,13 +30,13 @@ pub enum Refusal {
     },
     /// The bytes end within a header number.
     Short {
-        /// The byte count. This version of the library does not tell it yet, and gives 0.
+        /// The byte count.
         bytes: usize,
     },
     /// A header number is not minimal, or is 2^64 or more.
     Number {
-        /// The place of the byte that decided it, from 0. This version of the library does not tell
-        /// it yet, and gives 0.
+        /// The place, from 0, of the byte that decided it: the 0 that ends a number of several bytes,
+        /// or the tenth byte of one that is not 1.
         place: usize,
     },
     /// The first header number is not 1.
@@ -178,14 +178,14 @@ impl fmt::Display for Refusal {
                 f,
                 "the output is too short: the column takes {needed} bytes"
             ),
-            Self::Short { .. } => write!(
+            Self::Short { bytes } => write!(
                 f,
-                "the bytes end within the header: the column is empty or cut off"
+                "the bytes, {bytes} in all, end within the header: the column is empty or cut off"
             ),
-            Self::Number { .. } => write!(
+            Self::Number { place } => write!(
                 f,
-                "a number of the header is not in its shortest form or needs more than 64 bits: \
-                 the header is damaged, or this is no column"
+                "a number of the header is not in its shortest form or needs more than 64 bits, by \
+                 byte {place} (from 0): the header is damaged, or this is no column"
             ),
             Self::Edition => write!(
                 f,
@@ -233,10 +233,9 @@ mod tests {
             let refusal = Refusal::given(number, 77);
             assert_eq!(Refusal::from_number(number, 77), Some(refusal));
             assert_eq!(refusal.number(), number);
-            let told = matches!(refusal.name(), "ORDER" | "RANGE" | "ROOM" | "BUFFER");
-            let carries = told || matches!(refusal.name(), "SHORT" | "NUMBER");
+            let carries = matches!(number, 3 | 4 | 6 | 7 | 8 | 12);
             assert_eq!(refusal.number_with(), if carries { 77 } else { 0 });
-            assert_eq!(refusal.to_string().contains("77"), told);
+            assert_eq!(refusal.to_string().contains("77"), carries);
             assert_eq!(refusal.name(), refusal.name().to_uppercase());
         }
     }

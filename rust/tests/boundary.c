@@ -37,6 +37,22 @@ int main(void)
     PROMISE(reply.refusal == SIGNALFERN_SHORT && reply.number == 0);
     PROMISE(same_answer(signalfern_look_up(NULL, 0, 0), SIGNALFERN_SHORT, 0, 0, 0));
 
+    /* Where the header broke: the byte count, or the place of the byte that decided it. Each call tells it. */
+    const uint8_t bad[] = {0x01, 0x80, 0x00, 0x09};
+    for (size_t i = 1; i <= sizeof bad; i++) {
+        uint64_t refusal = i < 3 ? SIGNALFERN_SHORT : SIGNALFERN_NUMBER;
+        uint64_t number = i < 3 ? i : 2;
+        reply = signalfern_check(bad, i);
+        PROMISE(reply.refusal == refusal && reply.number == number);
+        reply = signalfern_read(bad, i, NULL, 0, NULL, 0);
+        PROMISE(reply.refusal == refusal && reply.number == number);
+        signalfern_column opened = signalfern_open(bad, i);
+        PROMISE(opened.refusal == refusal && opened.number == number && opened.edition == 0);
+        signalfern_answer answer = signalfern_look_up(bad, i, 7);
+        PROMISE(answer.kind == refusal && answer.number == number);
+        PROMISE(answer.ordinal == 0 && answer.value == 0 && answer.words == 0);
+    }
+
     /* Refusals, with the number that comes with them. */
     const uint32_t ids[] = {4, 4, SIGNALFERN_MAX_ID + 1};
     const int64_t values[] = {-1, 5, 9};

@@ -96,25 +96,25 @@ fn rank_entries() {
 
 #[test]
 fn header_numbers() {
-    // Both carry 0 until the library tells where the header broke.
-    const SHORT: Refusal = Refusal::Short { bytes: 0 };
-    const NUMBER: Refusal = Refusal::Number { place: 0 };
+    // Each with the byte count or the place that document 02, [4] asks for.
+    let short = |bytes| Refusal::Short { bytes };
+    let number = |place| Refusal::Number { place };
     for (head, refusal) in [
-        ("", SHORT),
-        ("80", SHORT),
-        ("80 00", NUMBER),
-        ("81 80 80 80 80 80 80 80 80", SHORT),
-        ("81 80 80 80 80 80 80 80 80 00", NUMBER),
+        ("", short(0)),
+        ("80", short(1)),
+        ("80 00", number(1)),
+        ("81 80 80 80 80 80 80 80 80", short(9)),
+        ("81 80 80 80 80 80 80 80 80 00", number(9)),
         ("81 80 80 80 80 80 80 80 80 01", Refusal::Edition),
-        ("81 80 80 80 80 80 80 80 80 02", NUMBER),
-        ("81 80 80 80 80 80 80 80 80 80", NUMBER),
-        ("81 80 80 80 80 80 80 80 80 81 00", NUMBER),
+        ("81 80 80 80 80 80 80 80 80 02", number(9)),
+        ("81 80 80 80 80 80 80 80 80 80", number(9)),
+        ("81 80 80 80 80 80 80 80 80 81 00", number(9)),
         ("00", Refusal::Edition),
         ("02", Refusal::Edition),
-        ("01", SHORT),
+        ("01", short(1)),
         // A rank power that is not allowed, and the last number is cut off.
-        ("01 00 06 0E 01 00 00 01", SHORT),
-        ("01 00 06 0E 01 00 00 01 80 00", NUMBER),
+        ("01 00 06 0E 01 00 00 01", short(8)),
+        ("01 00 06 0E 01 00 00 01 80 00", number(9)),
         ("01 00 06 0E 01 00 00 01 00", Refusal::Header),
         ("01 00 09 0E 01 00 00 01 00", Refusal::Length),
     ] {

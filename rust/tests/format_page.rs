@@ -54,6 +54,36 @@ fn a_changed_value_can_be_sound() {
     assert!(scores.iter().eq([(0, 145), (2, 140), (7, 135)]));
 }
 
+/// What the page says of SHORT and NUMBER, and the bytes it says it of.
+#[test]
+fn where_a_header_broke() {
+    let nine = [0x80; 9];
+    let short = |bytes| Err(Refusal::Short { bytes });
+    let number = |place| Err(Refusal::Number { place });
+    for (words, bytes, refused) in [
+        ("`80` alone is SHORT with 1;", &[0x80][..], short(1)),
+        ("`80 00` is NUMBER with 1.", &[0x80, 0x00], number(1)),
+        (
+            "Nine bytes with the top bit set and then the end are SHORT with 9;",
+            &nine,
+            short(9),
+        ),
+        (
+            "with a tenth byte other than 1 they are NUMBER with 9.",
+            &[&nine[..], &[2]].concat(),
+            number(9),
+        ),
+        (
+            "`01 03 89 00` is NUMBER with 3:",
+            &[0x01, 0x03, 0x89, 0x00],
+            number(3),
+        ),
+    ] {
+        assert!(PAGE.contains(words), "{words}");
+        assert_eq!(same::check(bytes), refused, "{words}");
+    }
+}
+
 #[test]
 fn refusals_by_number_and_name() {
     let (_, section) = PAGE.split_once("\n## Refusals\n").unwrap();

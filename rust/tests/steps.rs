@@ -5,7 +5,7 @@
 mod common;
 
 use common::damage::Tally;
-use common::same;
+use common::{same, THREE_PAIRS};
 use signalfern::{Refusal, MAX_ID};
 use signalfern_reference::Answer;
 
@@ -47,10 +47,6 @@ fn hold(column: &[u8], lines: &[Line]) {
 fn without_jump_entries() {
     // 10 bytes of header; block 0 with its head at 10 and its places at 14; the end block at 20; the
     // stored numbers 3, 1, 0 at 26. n = 3, L = A = 16, J = 0.
-    let column = [
-        0x01, 0x03, 0x09, 0x10, 0x00, 0x02, 0x8E, 0x02, 0x05, 0x01, 0x00, 0x00, 0x02, 0x00, 0x00,
-        0x00, 0x02, 0x00, 0x07, 0x00, 0xFF, 0x7F, 0x00, 0x00, 0xFF, 0xFF, 0xD0,
-    ];
     let lines: [Line; 8] = [
         ("step 5: place 2 at index 1", &[], 2, found(1, 140, 0)),
         // The places are 9, 2, 7: the first that is not below 2 is 9.
@@ -75,7 +71,7 @@ fn without_jump_entries() {
         // o + c = 4.
         ("step 4: one id more than n", &[(12, 3)], 2, BROKEN),
     ];
-    hold(&column, &lines);
+    hold(&THREE_PAIRS, &lines);
 }
 
 #[test]

@@ -160,29 +160,6 @@ fn header_rules() {
     }
 }
 
-#[test]
-fn header_numbers() {
-    let column = column();
-    let cut = [
-        "refusal 7, SHORT",
-        "rank power (p), the header's number at byte 2",
-        "after 2 bytes",
-    ];
-    explained(&column[..2], &cut);
-    let longer = [&column[..1], &[0x80, 0], &column[2..]].concat();
-    let words = [
-        "refusal 8, NUMBER",
-        "pairs (n), the header's number at byte 1",
-        "shortest form",
-    ];
-    explained(&longer, &words);
-    let greater = [&column[..1], &[0xFF; 10], &column[2..]].concat();
-    explained(
-        &greater,
-        &["refusal 8, NUMBER", "at byte 1", "needs more than 64 bits"],
-    );
-}
-
 /// The bits flipped at a byte of the id section, and what is told of it. (The places themselves are
 /// tested beside the diagnosis.)
 const FLIPPED: [(usize, u8, &str); 6] = [

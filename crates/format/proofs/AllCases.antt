@@ -3,6 +3,7 @@
 -- (It is the first of these files to be checked, so that a slip in a definition shows as the case that it breaks.) Assumes nothing.
 use Rattle.format.proofs.Starred.{Starred, starred}
 use Rattle.format.proofs.Pins.{WriterCases, writer-cases, DivisorCases, divisor-cases, HeaderCases, header-cases}
+use Rattle.format.proofs.PinsPlaces.{PlaceCases, place-cases}
 use Rattle.format.proofs.PinsSteps.{DamageCases, damage-cases, StepCases, step-cases, WalkCases, walk-cases}
 
 pub record AllCases : Type 0 where
@@ -10,6 +11,7 @@ pub record AllCases : Type 0 where
   pub writer-table : WriterCases
   pub divisor-table : DivisorCases
   pub header-table : HeaderCases
+  pub place-table : PlaceCases
   pub damage-table : DamageCases
   pub step-table : StepCases
   pub walk-table : WalkCases
@@ -21,6 +23,7 @@ all-cases =
       writer-table = writer-cases;
       divisor-table = divisor-cases;
       header-table = header-cases;
+      place-table = place-cases;
       damage-table = damage-cases;
       step-table = step-cases;
       walk-table = walk-cases;

@@ -6,7 +6,7 @@ use Rattle.format.specs.Kit.{_≤_, arith, ℤ, length, take, drop, take
 use Rattle.format.specs.Limits.{maxId, maxCount}
 use Rattle.format.specs.Refusals.{done}
 use Rattle.format.specs.Bytes.{bytesOf}
-use Rattle.format.specs.HeaderNumbers.{number, readNumber, Got, got, short, bad, gotAt, numberAt, numbersAt}
+use Rattle.format.specs.HeaderNumbers.{number, numbersAt}
 use Rattle.format.specs.Ids.{jumps, idSection}
 use Rattle.format.specs.Pairs.{Pairs, Asc, Below, Each, Fits, Valid}
 use Rattle.format.specs.Codec.{Fields, Codec}
@@ -16,7 +16,7 @@ use Rattle.format.specs.Opening.{headFrom, headOk, Opened, openColumn, i
 use Rattle.format.specs.Rules.{HeadFacts}
 use Rattle.format.specs.Check.{allValues, accepted}
 use Rattle.format.proofs.Digits.{below-drop}
-use Rattle.format.proofs.Minimal.{number-read}
+use Rattle.format.proofs.Minimal.{number-is}
 use Rattle.format.proofs.Lawful.{Storable, SmallFields, Lawful, LawfulReader}
 use Rattle.format.proofs.Editions.{found-number}
 use Rattle.format.proofs.Open.{tail, opened-ok}
@@ -26,20 +26,6 @@ use Rattle.format.proofs.Rules.{head-facts, power-true}
 use Rattle.format.proofs.Tests.{result, needed, given-some, passed}
 
 -- ---- the header's bytes
-
-number-is : (bytes : List ℕ) (at : ℕ) (r : ℕ × ℕ) → Below 256 bytes → numberAt bytes at ≡ done r
-    → (drop at bytes ≡ number (r .0) ++ drop (r .1) bytes) × Below (2 ^ 64) (r .0 ∷ [])
-unfolding numberAt gotAt
-number-is bytes at r u = go (readNumber (drop at bytes)) refl
-  where
-    go : (g : Got) → readNumber (drop at bytes) ≡ g → gotAt bytes at g ≡ done r
-        → (drop at bytes ≡ number (r .0) ++ drop (r .1) bytes) × Below (2 ^ 64) (r .0 ∷ [])
-    go (got v k) e d =
-        let n = number-read (drop at bytes) v k (below-drop 256 at bytes u) e in
-        subst (λ (x : ℕ × ℕ). (drop at bytes ≡ number (x .0) ++ drop (x .1) bytes) × Below (2 ^ 64) (x .0 ∷ [])) (ap (result (0, 0)) d)
-        (n .1 ∙ ap (λ (l : List ℕ). number v ++ l) (drop-drop k at bytes), (n .0, tt))
-    go short e d = absurd (let z : _≡_ {A = ℕ} 0 1 = cc in omega arith)
-    go (bad k) e d = absurd (let z : _≡_ {A = ℕ} 0 1 = cc in omega arith)
 
 pub record NumbersAt (k : ℕ) (bytes : List ℕ) (at : ℕ) (r : List ℕ × ℕ) : Type 0 where
   pub there : drop at bytes ≡ bytesOf number (r .0) ++ drop (r .1) bytes
@@ -59,9 +45,9 @@ numbers-are (suc k) bytes at r u d =
     let ih : NumbersAt k bytes (v .1) x = numbers-are k bytes (v .1) x u (w2 .1) in
     subst (NumbersAt (suc k) bytes at) (ap (result ([], 0)) (w2 .2))
     (record {
-      there = n .0 ∙ ap (λ (l : List ℕ). number (v .0) ++ l) (ih .there) ∙ sym (append-assoc (number (v .0)) (bytesOf number (x .0)) (drop (x .1) bytes));
+      there = n .there ∙ ap (λ (l : List ℕ). number (v .0) ++ l) (ih .there) ∙ sym (append-assoc (number (v .0)) (bytesOf number (x .0)) (drop (x .1) bytes));
       many = ap suc (ih .many);
-      small = (n .1 .0, ih .small);
+      small = (n .small, ih .small);
     })
 
 head-back : (ed : Edition) (ns : List ℕ) → length ns ≡ 8 → tail (headFrom ed ns) ≡ ns
@@ -103,7 +89,7 @@ parts known bytes c u o =
     subst (Parts bytes) (ap (result c) (s5 .1))
     (record {
       made =
-          first .0
+          first .there
           ∙ ap₂ {C = List ℕ} (λ (x : ℕ) (l : List ℕ). number x ++ l) own (n .there)
           ∙ sym (append-assoc (number (numberOf ed)) (bytesOf number (r .0)) (drop (r .1) bytes))
           ∙ ap₂ {C = List ℕ} (λ (x y : List ℕ). (number (numberOf ed) ++ bytesOf number x) ++ y) (sym back)

@@ -4,6 +4,7 @@ pub mod AllCases
 pub mod Computing
 pub mod Starred
 pub mod Pins
+pub mod PinsPlaces
 pub mod PinsSteps
 pub mod Demands
 pub mod Meaning
@@ -18,6 +19,7 @@ pub mod Bits
 pub mod Section
 pub mod Header
 pub mod Minimal
+pub mod BadNumber
 pub mod Places
 pub mod SetBits
 pub mod Blocks
@@ -44,4 +46,6 @@ pub mod FromEntry
 pub mod Looked
 pub mod Walked
 pub mod Words
+pub mod Never
+pub mod HeaderFaults
 pub mod Retired

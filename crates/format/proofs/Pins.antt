@@ -113,29 +113,29 @@ divisor-cases = search
 -- ---- the header
 
 pub record HeaderCases : Type 0 where
-  -- 7: the bytes end before a header number's last byte
+  -- 7: the bytes end before a header number's last byte; with the byte count (document 02, [4]; more in PinsPlaces.antt)
   pub no-bytes : check editions [] ≡ refused SHORT 0
-  pub edition-alone : check editions (0x01 ∷ []) ≡ refused SHORT 0
-  pub nine-go-on : check editions (replicate 9 0x80) ≡ refused SHORT 0
-  -- 8: ten bytes that go on; the tenth byte can only be 1; not minimal
-  pub ten-go-on : check editions (replicate 10 0x80) ≡ refused NUMBER 0
-  pub tenth-two : check editions (replicate 9 0xFF ++ (0x02 ∷ [])) ≡ refused NUMBER 0
-  pub tenth-zero : check editions (replicate 9 0xFF ++ (0x00 ∷ [])) ≡ refused NUMBER 0
+  pub edition-alone : check editions (0x01 ∷ []) ≡ refused SHORT 1
+  pub nine-go-on : check editions (replicate 9 0x80) ≡ refused SHORT 9
+  -- 8: ten bytes that go on; the tenth byte can only be 1; not minimal; with the place of the byte that decided it ([4])
+  pub ten-go-on : check editions (replicate 10 0x80) ≡ refused NUMBER 9
+  pub tenth-two : check editions (replicate 9 0xFF ++ (0x02 ∷ [])) ≡ refused NUMBER 9
+  pub tenth-zero : check editions (replicate 9 0xFF ++ (0x00 ∷ [])) ≡ refused NUMBER 9
   pub tenth-one : readNumber (replicate 9 0xFF ++ (0x01 ∷ [])) ≡ got (2 ^ 64 - 1) 10
   pub tenth-bad : readNumber (replicate 9 0xFF ++ (0x02 ∷ [])) ≡ bad 9
   pub ten-bytes : number (2 ^ 63) ≡ replicate 9 0x80 ++ (0x01 ∷ [])
   pub nine-bytes : number (2 ^ 63 - 1) ≡ replicate 8 0xFF ++ (0x7F ∷ [])
   pub zero-alone : readNumber (0x00 ∷ []) ≡ got 0 1
-  pub ends-in-zero : check editions (0x01 ∷ 0x83 ∷ 0x00 ∷ []) ≡ refused NUMBER 0
+  pub ends-in-zero : check editions (0x01 ∷ 0x83 ∷ 0x00 ∷ []) ≡ refused NUMBER 2
   -- 7 and 8 go by the first bad header number
-  pub number-then-short : check editions (0x01 ∷ 0x83 ∷ 0x00 ∷ 0x80 ∷ []) ≡ refused NUMBER 0
+  pub number-then-short : check editions (0x01 ∷ 0x83 ∷ 0x00 ∷ 0x80 ∷ []) ≡ refused NUMBER 2
   -- 9: as soon as the first number is read, before a later 7 or 8
   pub edition-two : check editions (0x02 ∷ []) ≡ refused EDITION 0
   pub edition-zero : check editions (0x00 ∷ 0x80 ∷ 0x00 ∷ []) ≡ refused EDITION 0
   pub edition-largest : check editions (replicate 9 0xFF ++ (0x01 ∷ [])) ≡ refused EDITION 0
   -- 10: only after all nine numbers; p is 6 here, and the last number is cut, or not minimal
-  pub cut-before-rules : check editions (headed (1 ∷ 3 ∷ 6 ∷ 16 ∷ 0 ∷ 2 ∷ 270 ∷ 5 ∷ []) (0x81 ∷ [])) ≡ refused SHORT 0
-  pub number-before-rules : check editions (headed (1 ∷ 3 ∷ 6 ∷ 16 ∷ 0 ∷ 2 ∷ 270 ∷ 5 ∷ []) (0x81 ∷ 0x00 ∷ section)) ≡ refused NUMBER 0
+  pub cut-before-rules : check editions (headed (1 ∷ 3 ∷ 6 ∷ 16 ∷ 0 ∷ 2 ∷ 270 ∷ 5 ∷ []) (0x81 ∷ [])) ≡ refused SHORT 10
+  pub number-before-rules : check editions (headed (1 ∷ 3 ∷ 6 ∷ 16 ∷ 0 ∷ 2 ∷ 270 ∷ 5 ∷ []) (0x81 ∷ 0x00 ∷ section)) ≡ refused NUMBER 10
   -- each rule broken alone, and its other side: p
   pub power-1 : check editions (three 1) ≡ refused HEADER 0
   pub power-6 : check editions (three 6) ≡ refused HEADER 0

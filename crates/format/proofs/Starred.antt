@@ -44,10 +44,10 @@ pub record Starred : Type 0 where
   pub lowest : number (zigzag (negsuc (2 ^ 63 - 1))) ≡ replicate 9 0xFF ++ (0x01 ∷ [])
   -- strides holding 5, 1 and 2 ones: the first three rank entries are 00 00 00 05 00 06
   pub ranks : take 6 (rankTable 9 (0 ∷ 1 ∷ 2 ∷ 3 ∷ 4 ∷ 512 ∷ 1024 ∷ 1025 ∷ [])) ≡ 0x00 ∷ 0x00 ∷ 0x00 ∷ 0x05 ∷ 0x00 ∷ 0x06 ∷ []
-  -- header number 80 00: NUMBER
-  pub not-minimal : check editions (0x80 ∷ 0x00 ∷ []) ≡ refused NUMBER 0
-  -- 80 alone: SHORT
-  pub cut : check editions (0x80 ∷ []) ≡ refused SHORT 0
+  -- header number 80 00: NUMBER, at byte 1 (document 02, [4])
+  pub not-minimal : check editions (0x80 ∷ 0x00 ∷ []) ≡ refused NUMBER 1
+  -- 80 alone: SHORT, of 1 byte
+  pub cut : check editions (0x80 ∷ []) ≡ refused SHORT 1
   -- ids 4, 4: ORDER, index 1
   pub order : (room : ℕ) → write 9 (4 ∷ 4 ∷ []) (pos 0 ∷ pos 0 ∷ []) room ≡ refused ORDER 1
   -- id 2147352576 alone: RANGE, index 0

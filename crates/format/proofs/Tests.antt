@@ -29,6 +29,24 @@ unfolding andThen
 passed (done a) f b e = (a, refl, e)
 passed (refused why w) f b e = absurd (let z : _≡_ {A = ℕ} 0 1 = cc in omega arith)
 
+-- a chain that was stopped: at its first step, or after it
+pub stopped : {A B X : Type 0} (o : Outcome A) (f : A → Outcome B) (why w : ℕ) → andThen o f ≡ refused why w → (o ≡ refused why w → X)
+    → ((a : A) → o ≡ done a → f a ≡ refused why w → X) → X
+unfolding andThen
+stopped (done a) f why w e now later = later a refl e
+stopped (refused v x) f why w e now later = now (cc)
+
+pub need-stopped : {A X : Type 0} (t : Bool) (k v : ℕ) (next : Outcome A) (why w : ℕ) → need t k v next ≡ refused why w → (why ≡ k → X)
+    → (next ≡ refused why w → X) → X
+unfolding need
+need-stopped true k v next why w e now later = later e
+need-stopped false k v next why w e now later = now (cc)
+
+pub given-stopped : {A : Type 0} (o : Option A) (k v why w : ℕ) → given o k v ≡ refused why w → why ≡ k
+unfolding given
+given-stopped (some a) k v why w e = absurd (let z : _≡_ {A = ℕ} 0 1 = cc in omega arith)
+given-stopped none k v why w e = cc
+
 -- ---- both, either, neither
 
 pub both-true : (a b : Bool) → a && b ≡ true → (a ≡ true) × (b ≡ true)

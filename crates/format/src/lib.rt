@@ -3,16 +3,16 @@
 ghost use mathlib.Core.Path.{_≡_};
 ghost use Rattle.format.specs.Replies.{refusalNumber, refusalWith};
 
-// Document 01's refusals, each with the number that goes with it, where that is not always 0. There is no OFFSET, which cannot happen
-// (document 02, [7]).
+// Document 01's refusals, each with the number that goes with it, where that is not always 0; for SHORT and NUMBER it is document 02's
+// ([4]). There is no OFFSET, which cannot happen (document 02, [7]).
 pub enum Refusal {
     Lengths,
     Power,
     Order(u64),
     Range(u64),
     Room(u64),
-    Short,
-    Number,
+    Short(u64),
+    Number(u64),
     Edition,
     Header,
     Length,
@@ -66,8 +66,8 @@ impl Refusal {
             Refusal::Range(_) => 4,
             // 5 is not used: it was OFFSET, which cannot happen (document 02, [7])
             Refusal::Room(_) => 6,
-            Refusal::Short => 7,
-            Refusal::Number => 8,
+            Refusal::Short(_) => 7,
+            Refusal::Number(_) => 8,
             Refusal::Edition => 9,
             Refusal::Header => 10,
             Refusal::Length => 11,
@@ -78,7 +78,7 @@ impl Refusal {
         }
     }
 
-    // The number with it: an index, the bytes or the places needed, or 0.
+    // The number with it: an index, the bytes or the places needed, the byte count or the place of a byte (document 02, [4]), or 0.
     pub fn number_with(self) -> u64
         ensures { λ r. ⌜ r ≡ refusalWith self ⌝ }
     {
@@ -86,11 +86,11 @@ impl Refusal {
             Refusal::Order(i) => i,
             Refusal::Range(i) => i,
             Refusal::Room(n) => n,
+            Refusal::Short(n) => n,
+            Refusal::Number(at) => at,
             Refusal::Buffer(n) => n,
             Refusal::Lengths => 0,
             Refusal::Power => 0,
-            Refusal::Short => 0,
-            Refusal::Number => 0,
             Refusal::Edition => 0,
             Refusal::Header => 0,
             Refusal::Length => 0,

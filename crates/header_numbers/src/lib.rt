@@ -4,7 +4,7 @@ ghost use Prim.Native.Nat.{_+_, _≤_, _<_};
 ghost use lib.ListN.{length, drop};
 ghost use lib.Seq.{sets};
 ghost use Rattle.format.specs.HeaderNumbers.{number, readNumber, readGroups};
-ghost use Rattle.header_numbers.specs.Read.{numberOf, numberOn};
+ghost use Rattle.header_numbers.specs.Read.{numberOf, numberOn, decidesAt};
 ghost use Rattle.header_numbers.specs.Quick.{Quick};
 
 // What reading a header number finds.
@@ -53,30 +53,32 @@ pub fn put_number(out: &mut [u8], at: usize, n: u64) -> usize
     i + 1
 }
 
-// The bytes of a number after its first, whose seven bits are `low`.
-fn read_rest(s: &[u8], at: usize, low: u64) -> Number
-    requires { ⌜ low < 128 ⌝ }
-    ensures { λ r. ⌜ r ≡ numberOn 128 low at (readGroups 8 (drop at (now (s .entry)))) ⌝ }
+// Whether the byte after k bytes of a number, each of which goes on, decides that it is none: the tenth that is not 1, or a zero that
+// ends it.
+fn decides(k: usize, b: u64) -> bool
+    ensures { λ r. ⌜ r ≡ decidesAt k b ⌝ }
 {
-    let mut left: u64 = 8;
+    if k == 9 {
+        return b != 1;
+    }
+    b == 0
+}
+
+// The bytes of a number after its first, whose seven bits are `low`.
+fn read_rest(s: &[u8], first: usize, low: u64) -> Number
+    requires { ⌜ (low < 128) × (first < length (now s)) ⌝ }
+    ensures { λ r. ⌜ r ≡ numberOn 128 low (first + 1) (readGroups 8 (drop (first + 1) (now (s .entry)))) ⌝ }
+{
+    let mut k: usize = 1;
     let mut scale: u64 = 128;
     let mut sum = low;
-    let mut i = at;
+    let mut i = first + 1;
     while i < s.len() {
         let b = wide(s[i]);
-        if left == 0 {
-            if b == 1 {
-                return Number::Is {
-                    value: sum + scale,
-                    next: i + 1,
-                };
-            }
+        if decides(k, b) {
             return Number::Bad { at: i };
         }
         if b < 128 {
-            if b == 0 {
-                return Number::Bad { at: i };
-            }
             return Number::Is {
                 value: sum + scale * b,
                 next: i + 1,
@@ -84,7 +86,7 @@ fn read_rest(s: &[u8], at: usize, low: u64) -> Number
         }
         sum += scale * (b - 128);
         scale *= 128;
-        left -= 1;
+        k += 1;
         i += 1;
     }
     Number::Short
@@ -104,7 +106,7 @@ pub fn read_number(s: &[u8], at: usize) -> Number
             next: at + 1,
         };
     }
-    read_rest(s, at + 1, b - 128)
+    read_rest(s, at, b - 128)
 }
 
 // A number of at most five bytes, 16 times, and its length; 0 for all else. One word, so that no answer goes through memory.

@@ -2,8 +2,8 @@
 -- `read` and `look_up` in src/lib.rt, and a list with ′ is a lent buffer after the call. Assumes nothing.
 use Rattle.format.specs.Kit.{_≡_, refl, sym, ap, _∙_, subst, List, _++_, ℕ, _≤_, arith, ℤ, length, take, drop, take-at, le-leb}
 use Rattle.format.specs.Limits.{maxId}
-use Rattle.format.specs.Refusals.{Outcome, done, refused, andThen, need}
-use Rattle.format.specs.Pairs.{Pairs, Each, Fits, Valid}
+use Rattle.format.specs.Refusals.{Outcome, done, refused, andThen, need, SHORT, NUMBER}
+use Rattle.format.specs.Pairs.{Pairs, Below, Each, Fits, Valid}
 use Rattle.format.specs.Editions.{Edition, plain, editions}
 use Rattle.format.specs.Column.{column}
 use Rattle.format.specs.Writer.{write, writeReply, writeOut}
@@ -17,6 +17,7 @@ use Rattle.format.specs.declared.Answer.{Answer}
 use Rattle.format.proofs.Tests.{result, passed}
 use Rattle.format.proofs.Editions.{lawful-reader}
 use Rattle.format.proofs.Unique.{written-valid, is-read}
+use Rattle.format.proofs.HeaderFaults.{BrokenAt, EndsAt, number-fault, short-fault, check-from, reading-from, look-up-from}
 use Rattle.format.proofs.Demands.{written-1, checked-1, read-back-1, accepted-answers}
 
 -- ---- demand 1: a refused call changes no byte that it was lent
@@ -41,6 +42,40 @@ refused-read bytes is is′ xs xs′ q why w k ki kx e = go (reading editions by
     go : (o : Outcome Pairs) → reading editions bytes (length is) (length xs) ≡ o → (is′ ≡ is) × (xs′ ≡ xs)
     go (done b) f = absurd (let x = ap readReply f in let z : _≡_ {A = ℕ} 0 1 = cc in omega arith)
     go (refused x y) f = (ki ∙ ap (λ (o : Outcome Pairs). idsAfter o is) f, kx ∙ ap (λ (o : Outcome Pairs). valuesAfter o xs) f)
+
+-- ---- demand 1: where the header broke (document 02, [4])
+
+read-refused : (o : Outcome Pairs) (why w : ℕ) → readReply o ≡ refused why w → o ≡ refused why w
+unfolding readReply
+read-refused (done q) why w e = absurd (let z : _≡_ {A = ℕ} 0 1 = cc in omega arith)
+read-refused (refused x y) why w e = cc
+
+module _ (bytes : List ℕ) (u : Below 256 bytes) (w : ℕ) where
+  -- NUMBER comes with the place of the byte that decided it,
+  pub check-broke : (c : Reply) → replyOf c ≡ check editions bytes → replyOf c ≡ refused NUMBER w → BrokenAt editions bytes w
+  check-broke c k e = number-fault editions bytes w u (check-from editions bytes NUMBER w (omega arith) (sym k ∙ e))
+
+  pub read-broke : (q : Reply) (is : List ℕ) (xs : List ℤ) → replyOf q ≡ readReply (reading editions bytes (length is) (length xs))
+      → replyOf q ≡ refused NUMBER w → BrokenAt editions bytes w
+  read-broke q is xs k e =
+      number-fault editions bytes w u
+      (reading-from editions bytes NUMBER w (omega arith) (length is) (length xs) (read-refused _ NUMBER w (sym k ∙ e)))
+
+  pub look-up-broke : (a : Answer) (id : ℕ) → answerOf a ≡ lookUp editions bytes id → answerOf a ≡ refused NUMBER w → BrokenAt editions bytes w
+  look-up-broke a id k e = number-fault editions bytes w u (look-up-from editions bytes NUMBER w (omega arith) id (sym k ∙ e))
+
+  -- and SHORT with the byte count
+  pub check-ends : (c : Reply) → replyOf c ≡ check editions bytes → replyOf c ≡ refused SHORT w → EndsAt editions bytes w
+  check-ends c k e = short-fault editions bytes w u (check-from editions bytes SHORT w (omega arith) (sym k ∙ e))
+
+  pub read-ends : (q : Reply) (is : List ℕ) (xs : List ℤ) → replyOf q ≡ readReply (reading editions bytes (length is) (length xs))
+      → replyOf q ≡ refused SHORT w → EndsAt editions bytes w
+  read-ends q is xs k e =
+      short-fault editions bytes w u
+      (reading-from editions bytes SHORT w (omega arith) (length is) (length xs) (read-refused _ SHORT w (sym k ∙ e)))
+
+  pub look-up-ends : (a : Answer) (id : ℕ) → answerOf a ≡ lookUp editions bytes id → answerOf a ≡ refused SHORT w → EndsAt editions bytes w
+  look-up-ends a id k e = short-fault editions bytes w u (look-up-from editions bytes SHORT w (omega arith) id (sym k ∙ e))
 
 -- ---- what `read` gives where its definition gives the pairs
 

@@ -96,34 +96,33 @@ pub(crate) fn zigzag(value: i64) -> u64 {
     ((value << 1) ^ (value >> 63)) as u64
 }
 
-/// Takes one number off the front.
-fn take_number(bytes: &mut &[u8]) -> Result<u64, Refusal> {
+/// Reads the number at a place of the bytes, and moves the place past it. What is refused goes by all
+/// the bytes: SHORT tells how many they are, NUMBER the place of the byte that decided it.
+fn take_number(bytes: &[u8], place: &mut usize) -> Result<u64, Refusal> {
     let mut number = 0;
-    for (i, &byte) in bytes.iter().take(10).enumerate() {
-        // The tenth byte holds bit 63 alone.
-        if i == 9 && byte != 1 {
-            return Err(Refusal::NUMBER);
+    for i in 0..10 {
+        let byte = *bytes.get(*place).ok_or(Refusal::short(bytes.len()))?;
+        // One of several bytes doesn't end in 0; the tenth byte can only be 1.
+        if i > 0 && byte == 0 || i == 9 && byte != 1 {
+            return Err(Refusal::bad_number(*place));
         }
         number |= u64::from(byte & 0x7F) << (7 * i);
+        *place += 1;
         if byte < 0x80 {
-            if i > 0 && byte == 0 {
-                return Err(Refusal::NUMBER);
-            }
-            *bytes = &bytes[i + 1..];
-            return Ok(number);
+            break;
         }
     }
-    Err(Refusal::SHORT)
+    Ok(number)
 }
 
 /// Reads the header: refusals 7 to 11.
 pub fn open(bytes: &[u8]) -> Result<Column, Refusal> {
-    let mut rest = bytes;
-    let edition = take_number(&mut rest)?;
+    let mut place = 0;
+    let edition = take_number(bytes, &mut place)?;
     if edition != EDITION {
         return Err(Refusal::EDITION);
     }
-    let mut next = || take_number(&mut rest);
+    let mut next = || take_number(bytes, &mut place);
     let mut column = Column {
         edition,
         count: next()?,
@@ -136,7 +135,7 @@ pub fn open(bytes: &[u8]) -> Result<Column, Refusal> {
         value_bytes: next()?,
         start: 0,
     };
-    column.start = (bytes.len() - rest.len()) as u64;
+    column.start = place as u64;
     if !column.keeps_the_rules() {
         return Err(Refusal::HEADER);
     }
@@ -144,4 +143,52 @@ pub fn open(bytes: &[u8]) -> Result<Column, Refusal> {
         return Err(Refusal::LENGTH);
     }
     Ok(column)
+}
+
+#[cfg(test)]
+mod tests {
+    use super::*;
+
+    /// Nine numbers of a byte each, and the empty list's id section.
+    const COLUMN: [u8; 23] = [
+        1, 0, 9, 14, 1, 0, 0, 1, 0, 0xFF, 0x7F, 0, 0, 0xFF, 0xFF, 0, 0, 0, 0, 0, 0, 0, 0,
+    ];
+
+    /// The column with other bytes in place of the header number with this index.
+    fn with(index: usize, number: &[u8]) -> Vec<u8> {
+        [&COLUMN[..index], number, &COLUMN[index + 1..]].concat()
+    }
+
+    #[test]
+    fn where_the_header_broke() {
+        assert!(open(&COLUMN).is_ok());
+        let groups = [0x80; 10];
+        for index in 0..9 {
+            for len in 0..10 {
+                let cut = [&COLUMN[..index], &groups[..len]].concat();
+                assert_eq!(open(&cut), Err(Refusal::new(7, (index + len) as u64)));
+            }
+            for len in 1..9 {
+                let padded = with(index, &[&groups[..len], &[0]].concat());
+                assert_eq!(open(&padded), Err(Refusal::new(8, (index + len) as u64)));
+            }
+            for tenth in (0..=255).filter(|&byte| byte != 1) {
+                let tenth = [&groups[..9], &[tenth]].concat();
+                let eleven = [&tenth[..], &[1]].concat();
+                let ninth_after = Err(Refusal::new(8, index as u64 + 9));
+                assert_eq!(open(&with(index, &tenth)), ninth_after);
+                assert_eq!(open(&with(index, &eleven)), ninth_after);
+            }
+            // 2^63 is a number: what it says is refused later, or not.
+            let greatest = open(&with(index, &[&groups[..9], &[1]].concat()));
+            assert!(!matches!(greatest, Err(Refusal { number: 7 | 8, .. })));
+        }
+    }
+
+    #[test]
+    fn the_edition_comes_before_the_second_number() {
+        assert_eq!(open(&[2, 0x80, 0]), Err(Refusal::EDITION));
+        assert_eq!(open(&[1, 0x80, 0]), Err(Refusal::bad_number(2)));
+        assert_eq!(open(&[0x81, 0, 0x80, 0]), Err(Refusal::bad_number(1)));
+    }
 }

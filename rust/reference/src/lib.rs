@@ -27,7 +27,7 @@ pub const MAX_WIDTH: u64 = 64;
 pub struct Refusal {
     /// 1 to 15, without 5.
     pub number: u64,
-    /// An index, a byte count, a pair count or 0.
+    /// An index, a byte count, a place among the bytes, a pair count or 0.
     pub with: u64,
 }
 
@@ -39,8 +39,6 @@ impl Refusal {
     const LENGTHS: Self = Self::new(1, 0);
     const POWER: Self = Self::new(2, 0);
     // 5 is not used: it was OFFSET, which cannot happen (document 02, [7])
-    const SHORT: Self = Self::new(7, 0);
-    const NUMBER: Self = Self::new(8, 0);
     const EDITION: Self = Self::new(9, 0);
     const HEADER: Self = Self::new(10, 0);
     const LENGTH: Self = Self::new(11, 0);
@@ -58,6 +56,16 @@ impl Refusal {
 
     const fn room(needed: u64) -> Self {
         Self::new(6, needed)
+    }
+
+    /// With the byte count (document 02, [4]).
+    const fn short(bytes: usize) -> Self {
+        Self::new(7, bytes as u64)
+    }
+
+    /// NUMBER, with the place of the byte that decided it, from 0 (document 02, [4]).
+    const fn bad_number(place: usize) -> Self {
+        Self::new(8, place as u64)
     }
 
     const fn buffer(count: u64) -> Self {

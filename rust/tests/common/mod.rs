@@ -38,6 +38,13 @@ impl Random {
 /// The allowed rank powers.
 pub const POWERS: [u32; 10] = [0, 7, 8, 9, 10, 11, 12, 13, 14, 15];
 
+/// Document 01's column of (0, 150), (2, 140), (7, 135) at rank power 9: 10 bytes of header, of which
+/// the smallest value alone takes two, 8E 02; 16 of ids; D0.
+pub const THREE_PAIRS: [u8; 27] = [
+    0x01, 0x03, 0x09, 0x10, 0x00, 0x02, 0x8E, 0x02, 0x05, 0x01, 0x00, 0x00, 0x02, 0x00, 0x00, 0x00,
+    0x02, 0x00, 0x07, 0x00, 0xFF, 0x7F, 0x00, 0x00, 0xFF, 0xFF, 0xD0,
+];
+
 /// Counts at and around the borders of the block kinds.
 pub const BLOCK_COUNTS: [usize; 12] = [
     1, 2, 5, 100, 4094, 4095, 4096, 4097, 30_000, 65_534, 65_535, 65_536,

@@ -189,13 +189,13 @@ impl Outcome {
                 refusal,
                 meaning,
                 diagnosis,
-            } => object
-                .text("status", "refused")
-                .number("refusal", refusal.0)
-                .text("name", refusal.1)
-                .text("meaning", meaning)
-                .texts("details", &diagnosis.lines)
-                .text("advice", &diagnosis.advice),
+            } => {
+                let object = object
+                    .text("status", "refused")
+                    .number("refusal", refusal.0)
+                    .text("name", refusal.1);
+                diagnosis.json(object.text("meaning", meaning))
+            }
             Self::Unusable(message) => object.text("status", "unusable").text("message", message),
         }
         .line()
@@ -210,11 +210,10 @@ fn other_digest(digest: &Digest, told: &Digest, witness: &str) -> Outcome {
     Outcome::Refused {
         refusal: DIGEST,
         meaning: "a sound column, but not the one that the digest was taken of".to_string(),
-        diagnosis: Diagnosis {
+        diagnosis: Diagnosis::new(
             lines,
-            advice: "do not use its values: take the file again from where it was written"
-                .to_string(),
-        },
+            "do not use its values: take the file again from where it was written",
+        ),
     }
 }
 
@@ -225,5 +224,14 @@ impl Diagnosis {
             say(&format!("  {line}\n"));
         }
         say(&format!("What to do: {}.\n", self.advice));
+    }
+
+    /// Puts it into an object, with where a header broke by itself.
+    fn json(&self, object: Object) -> Object {
+        let object = match &self.broken {
+            Some(it) => (object.number(it.key, it.number)).text("header_number", it.name),
+            None => object,
+        };
+        (object.texts("details", &self.lines)).text("advice", &self.advice)
     }
 }

@@ -39,21 +39,14 @@ pub struct Header {
     pub starts: [usize; 10],
 }
 
-/// A header that cannot be read to its end: the number (from 0), where it starts, and why.
+/// A header that cannot be read to its end: the index of the number that cannot, from 0, and where it
+/// starts. Why, the library tells.
 #[derive(Debug, PartialEq, Eq)]
 pub struct Unreadable {
     pub index: usize,
     pub at: usize,
-    pub why: Why,
     /// The numbers before it.
     pub numbers: Vec<u64>,
-}
-
-#[derive(Debug, PartialEq, Eq)]
-pub enum Why {
-    Ends,
-    NotShortest,
-    TooGreat,
 }
 
 impl Header {
@@ -62,21 +55,12 @@ impl Header {
         let (mut numbers, mut starts) = ([0; 9], [0; 10]);
         for index in 0..9 {
             let at = starts[index];
-            match number(&bytes[at..]) {
-                Ok((number, len)) => {
-                    numbers[index] = number;
-                    starts[index + 1] = at + len;
-                }
-                Err(why) => {
-                    let numbers = numbers[..index].to_vec();
-                    return Err(Unreadable {
-                        index,
-                        at,
-                        why,
-                        numbers,
-                    });
-                }
-            }
+            let Some((number, len)) = number(&bytes[at..]) else {
+                let numbers = numbers[..index].to_vec();
+                return Err(Unreadable { index, at, numbers });
+            };
+            numbers[index] = number;
+            starts[index + 1] = at + len;
         }
         let [edition, count, power, id_bytes, jump_count, width, least, divisor, value_bytes] =
             numbers;
@@ -172,24 +156,21 @@ pub fn smallest(least: u64) -> i64 {
     (least >> 1) as i64 ^ -((least & 1) as i64)
 }
 
-/// The number at the front, in groups of seven bits, and its bytes.
-fn number(bytes: &[u8]) -> Result<(u64, usize), Why> {
+/// The number at the front, in groups of seven bits, and its bytes; if it is whole, in its shortest
+/// form, and below 2^64.
+fn number(bytes: &[u8]) -> Option<(u64, usize)> {
     let mut number = 0;
     for (at, &byte) in bytes.iter().take(10).enumerate() {
         if at == 9 && byte != 1 {
-            return Err(Why::TooGreat);
+            return None;
         }
         number |= u64::from(byte & 0x7F) << (7 * at);
         if byte < 0x80 {
             let shortest = at == 0 || byte != 0;
-            return if shortest {
-                Ok((number, at + 1))
-            } else {
-                Err(Why::NotShortest)
-            };
+            return shortest.then_some((number, at + 1));
         }
     }
-    Err(Why::Ends)
+    None
 }
 
 #[cfg(test)]
@@ -212,12 +193,19 @@ mod tests {
 
     #[test]
     fn numbers_that_cannot_be() {
-        let why = |bytes: &[u8]| Header::parse(bytes).unwrap_err();
-        assert_eq!(why(b"").why, Why::Ends);
-        assert_eq!(why(b"\x01\x80").at, 1);
-        assert_eq!(why(b"\x80\x00").why, Why::NotShortest);
-        assert_eq!(why(&[0xFF; 11]).why, Why::TooGreat);
+        let unreadable = |bytes: &[u8]| Header::parse(bytes).unwrap_err();
+        for (bytes, index, at) in [
+            (&b""[..], 0, 0),
+            (b"\x80\x00", 0, 0),
+            (&[0xFF; 11], 0, 0),
+            (b"\x01", 1, 1),
+            (b"\x01\x80", 1, 1),
+            (b"\x01\x83\x01\x80\x00", 2, 3),
+        ] {
+            let found = unreadable(bytes);
+            assert_eq!((found.index, found.at), (index, at), "{bytes:02X?}");
+        }
         let greatest = [&[0xFF; 9][..], &[1]].concat();
-        assert_eq!(why(&greatest).numbers, [u64::MAX]);
+        assert_eq!(unreadable(&greatest).numbers, [u64::MAX]);
     }
 }

@@ -128,7 +128,7 @@ fn converted(bytes: &[u8]) -> Option<&'static str> {
 }
 
 /// Whether bytes that are no UTF-8 text were replaced, as programs do that take all files for text.
-pub fn was_replaced(bytes: &[u8]) -> bool {
+fn was_replaced(bytes: &[u8]) -> bool {
     let text = match std::str::from_utf8(bytes) {
         Ok(text) => text,
         // The first bytes of a file may end within a character.
@@ -138,11 +138,6 @@ pub fn was_replaced(bytes: &[u8]) -> bool {
         Err(_) => return false,
     };
     text.contains(char::REPLACEMENT_CHARACTER)
-}
-
-/// What to say then.
-pub fn replaced() -> Diagnosis {
-    Diagnosis::new(vec![REPLACED.to_string()], BINARY)
 }
 
 /// How many line feeds stand alone, and how many after a return.
@@ -157,14 +152,19 @@ pub fn has_returns(bytes: &[u8]) -> bool {
 }
 
 /// Whether changed line endings are all that is wrong.
-pub fn is_sound_without_returns(bytes: &[u8]) -> bool {
+fn is_sound_without_returns(bytes: &[u8]) -> bool {
     let mended = has_returns(bytes).then(|| without_returns(bytes)).flatten();
     mended.is_some_and(|mended| signalfern::check(&mended).is_ok())
 }
 
-/// What to say then.
-pub fn mended() -> Diagnosis {
-    Diagnosis::new(vec![MENDED.to_string()], BINARY)
+/// What to say of a file whose header broke, if it went through a conversion of text.
+pub fn converted_to_text(bytes: &[u8], is_whole: bool) -> Option<Diagnosis> {
+    let what = match is_whole && is_sound_without_returns(bytes) {
+        true => MENDED,
+        false if was_replaced(bytes) => REPLACED,
+        false => return None,
+    };
+    Some(Diagnosis::new(vec![what.to_string()], BINARY))
 }
 
 /// The bytes with CR LF changed back to LF, if there is memory for them.

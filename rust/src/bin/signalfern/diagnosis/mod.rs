@@ -1,6 +1,7 @@
 //! Why a file is refused, for the person who has it. The library's check is the judge; what stands
 //! here only explains its verdict, on any bytes, in time that grows with the bytes alone.
 
+mod broken;
 mod damage;
 mod dense;
 mod entries;
@@ -20,6 +21,16 @@ use crate::load::Loaded;
 pub struct Diagnosis {
     pub lines: Vec<String>,
     pub advice: String,
+    pub broken: Option<Broken>,
+}
+
+/// Where a header broke, for a program that reads what is told.
+pub struct Broken {
+    /// "bytes", how many the file has; or "place", that of the bad byte.
+    pub key: &'static str,
+    pub number: u64,
+    /// The header number that the file ends in, or that the byte belongs to.
+    pub name: &'static str,
 }
 
 /// A place in a file that is not as the writer would give it.
@@ -51,21 +62,40 @@ impl Diagnosis {
     /// The same for the first bytes of a file, or all, and its length if that is known.
     fn explain(bytes: &[u8], len: Option<u64>, refusal: Refusal) -> Self {
         let is_whole = len == Some(bytes.len() as u64);
+        let converted = || length::converted_to_text(bytes, is_whole);
+        let cause = || converted().or_else(|| start::stranger(bytes));
         match (refusal, Header::parse(bytes)) {
             (Refusal::Length, Ok(header)) => length::explain(&header, bytes, len),
             (Refusal::Damaged, Ok(header)) => damage::explain(&header, bytes),
-            _ if is_whole && length::is_sound_without_returns(bytes) => length::mended(),
-            _ if length::was_replaced(bytes) => length::replaced(),
-            (Refusal::Header, Ok(header)) => start::broken_rule(&header),
-            (Refusal::Edition, _) => start::not_edition_one(bytes),
-            (_, Err(unreadable)) => start::unreadable(bytes, &unreadable),
+            (Refusal::Short { bytes: count }, Err(unreadable)) => {
+                broken::cut_off(bytes, count, &unreadable).by(cause())
+            }
+            (Refusal::Number { place }, Err(unreadable)) => {
+                broken::bad_byte(bytes, place, &unreadable).by(cause())
+            }
+            (Refusal::Header, Ok(header)) => {
+                converted().unwrap_or_else(|| start::broken_rule(&header))
+            }
+            (Refusal::Edition, _) => converted().unwrap_or_else(|| start::not_edition_one(bytes)),
             // Nothing else is refused by the check.
-            (_, Ok(_)) => Self::new(Vec::new(), COPY_AGAIN),
+            _ => Self::new(Vec::new(), COPY_AGAIN),
         }
     }
 
-    fn new(lines: Vec<String>, advice: impl Into<String>) -> Self {
-        let advice = advice.into();
-        Self { lines, advice }
+    pub fn new(lines: Vec<String>, advice: impl Into<String>) -> Self {
+        Self {
+            lines,
+            advice: advice.into(),
+            broken: None,
+        }
+    }
+
+    /// With a cause, if one is known, and what to do about that.
+    fn by(mut self, cause: Option<Self>) -> Self {
+        if let Some(cause) = cause {
+            self.lines.extend(cause.lines);
+            self.advice = cause.advice;
+        }
+        self
     }
 }

@@ -2,7 +2,7 @@
 
 use super::{Diagnosis, COPY_AGAIN};
 use crate::causes::other_kind;
-use crate::header::{Header, Unreadable, Why, NAMES};
+use crate::header::{Header, NAMES};
 use crate::text::quoted;
 
 /// HEADER: which rule, with the numbers.
@@ -31,29 +31,11 @@ pub fn not_edition_one(bytes: &[u8]) -> Diagnosis {
     }
 }
 
-/// SHORT and NUMBER: which number of the header.
-pub fn unreadable(bytes: &[u8], unreadable: &Unreadable) -> Diagnosis {
-    if bytes.is_empty() {
-        let line = "the file is empty".to_string();
-        return Diagnosis::new(vec![line], COPY_AGAIN);
-    }
-    if bytes[0] != 1 {
-        if let Some(diagnosis) = stranger(bytes) {
-            return diagnosis;
-        }
-    }
-    let (name, at, len) = (NAMES[unreadable.index], unreadable.at, bytes.len());
-    let why = match unreadable.why {
-        Why::Ends => format!("the file ends within it, after {len} bytes: it is cut off"),
-        Why::NotShortest => "it ends in a byte 00, so it is not in its shortest form".to_string(),
-        Why::TooGreat => "it needs more than 64 bits".to_string(),
-    };
-    let line = format!("{name}, the header's number at byte {at}: {why}");
-    Diagnosis::new(vec![line], COPY_AGAIN)
-}
-
 /// A file of another kind that is often taken for a column.
-fn stranger(bytes: &[u8]) -> Option<Diagnosis> {
+pub fn stranger(bytes: &[u8]) -> Option<Diagnosis> {
+    if bytes.first() == Some(&1) {
+        return None;
+    }
     let line = bytes.split(|&byte| byte == b'\n').next()?;
     if line.len() > 64 && line[..64].iter().all(u8::is_ascii_hexdigit) {
         let line = "this looks like a file of digests (.sha256), not like the column itself";

@@ -1,0 +1,53 @@
+-- `column::at_once::quick` meets its contract: the nine numbers one after the other, each read at once. Assumes nothing.
+use Rattle.format.specs.Kit.{_≡_, refl, sym, ap, _∙_, arith, needs}
+use Rattle.format.specs.Refusals.{done}
+use Rattle.format.specs.HeaderNumbers.{numberAt}
+use Rattle.format.specs.Column.{Head}
+use Rattle.format.specs.Editions.{plain, numberOf}
+use Rattle.format.proofs.Editions.{knows-all}
+use Rattle.column.specs.Opened.{judgedAs}
+use Rattle.column.proofs.HeaderNumbers.{quick-at, numbers-more}
+use Rattle.column.proofs.Steps.{all-numbers}
+use Rattle.column.proofs.at_once.quick.Statement.{statement}
+use Rattle.column.proofs.at_once.quick.Tie as tie
+
+-- edition 1 is the byte 1
+edition : (c : tie.Else2) → numberAt (c .before .before .before .before .args .bytes .now) 0 ≡ done (1, 1)
+edition c = quick-at (c .before .quick-byte .ensures) (omega (arith, c .if2 .left)) (omega (arith, c .if2 .left)) (omega (arith, c .if2 .left))
+
+returns : tie.Need-returns-7
+unfolding numberOf
+returns c =
+    let p3 = c .before in
+    let p2 = p3 .before .before .before in
+    let p1 = p2 .before .before .before in
+    let p0 = p1 .before .before .before in
+    let e = p0 .before .before .before in
+    let s = e .before .before .before .before .args .bytes .now in
+    λ n.
+    let on = c .quick-values .ensures n in
+    all-numbers s 1 1 (edition e) plain (knows-all plain) _ _
+    (numbers-more 7 s 1 (quick-at (p0 .before .before .quick-more .ensures) (p0 .before .if3 .left) refl (p0 .place-after .ensures .0))
+    (numbers-more 6 s _ (quick-at (p1 .before .before .quick-byte2 .ensures) (p1 .before .if4 .left) refl (p1 .place-after2 .ensures .0))
+    (numbers-more 5 s _ (quick-at (p2 .before .before .quick-more2 .ensures) (p2 .before .if5 .left) refl (p2 .place-after3 .ensures .0))
+    (numbers-more 4 s _ (quick-at (p3 .before .before .quick-number .ensures) (p3 .before .if6 .left) refl (p3 .place-after4 .ensures .0))
+    (on .read)))))
+    ∙ ap (λ (h : Head). judgedAs s (record { head = h; start = c .quick-values .result .start })) (sym (on .head))
+
+pub quick-spec : {M : Type 1} → statement M
+quick-spec =
+    tie.close (tie.spec
+    (λ c κs. search needs)
+    (λ c n. absurd (n (c .no-header .ensures)))
+    (λ c κs. search needs) (λ c κs. search needs)
+    (λ c n. absurd (n (c .no-header2 .ensures)))
+    (λ c κs. search needs) (λ c κs. search needs)
+    (λ c n. absurd (n (c .no-header3 .ensures)))
+    (λ c κs. search needs) (λ c κs. search needs) (λ c κs. search needs)
+    (λ c n. absurd (n (c .no-header4 .ensures)))
+    (λ c κs. search needs) (λ c κs. search needs) (λ c κs. search needs)
+    (λ c n. absurd (n (c .no-header5 .ensures)))
+    (λ c κs. search needs) (λ c κs. search needs) (λ c κs. search needs)
+    (λ c n. absurd (n (c .no-header6 .ensures)))
+    (λ c κs. search needs) (λ c κs. search needs)
+    returns)

@@ -1,0 +1,113 @@
+-- A refusal number that a definition never gives, on any input: chains of tests, none of which refuses with it, and the parts of the calls.
+-- Assumes nothing.
+use Rattle.format.specs.Kit.{_≡_, Bool, true, false, cond, not, List, Option, none, some, ℕ, zero, suc, _/_, arith, eqb, eqb-false}
+use Rattle.format.specs.Limits.{blockPlaces}
+use Rattle.format.specs.Refusals.{Outcome, done, refused, andThen, need, given, needNone, SHORT, NUMBER, EDITION, HEADER, LENGTH, DAMAGED, BROKEN}
+use Rattle.format.specs.Bytes.{lowAt}
+use Rattle.format.specs.HeaderNumbers.{Got, got, short, bad, gotAt, numberAt, numbersAt}
+use Rattle.format.specs.Ids.{Entry}
+use Rattle.format.specs.Editions.{Edition}
+use Rattle.format.specs.Opening.{Opened, openColumn, idPart}
+use Rattle.format.specs.Check.{accepted}
+use Rattle.format.specs.LookUp.{Place, absent, inside, nowhere, broken, Rule, answer, fromEntry, steps}
+
+-- ---- one number
+
+-- the refusal numbers differ
+abbrev pub Other : ℕ → ℕ → Type 0
+Other k why = eqb why k ≡ false
+
+-- a result, or a refusal with another number than k
+unfoldable pub Never : ℕ → {A : Type 0} → Outcome A → Type 0
+Never k (done a) = Unit {0}
+Never k (refused why w) = Other k why
+
+pub never : {A : Type 0} (k : ℕ) (o : Outcome A) (w : ℕ) → Never k o → o ≡ refused k w → ⊥
+unfolding Never
+never k (done a) w h e = let z : _≡_ {A = ℕ} 0 1 = cc in omega arith
+never k (refused why v) w h e =
+    let same : why ≡ k = cc in
+    omega (arith, eqb-false why k h, same)
+
+-- ---- chains of tests
+
+module _ (k : ℕ) where
+  module _ {A : Type 0} where
+    pub at-done : (a : A) → Never k (done a)
+    unfolding Never
+    at-done a = tt
+
+    at-cond : (t : Bool) (x y : Outcome A) → Never k x → Never k y → Never k (cond t x y)
+    at-cond true x y h j = h
+    at-cond false x y h j = j
+
+    pub at-need : (t : Bool) (why w : ℕ) (next : Outcome A) → Other k why → Never k next → Never k (need t why w next)
+    unfolding Never need
+    at-need true why w next h n = n
+    at-need false why w next h n = h
+
+    pub at-none : (o : Option ℕ) (why : ℕ) (next : Outcome A) → Other k why → Never k next → Never k (needNone o why next)
+    unfolding Never needNone
+    at-none none why next h n = n
+    at-none (some i) why next h n = h
+
+    at-given : (o : Option A) (why w : ℕ) → Other k why → Never k (given o why w)
+    unfolding Never given
+    at-given (some a) why w h = tt
+    at-given none why w h = h
+
+  pub at-then : {A B : Type 0} (o : Outcome A) (f : A → Outcome B) → Never k o → ((a : A) → Never k (f a)) → Never k (andThen o f)
+  unfolding Never andThen
+  at-then (done a) f h n = n a
+  at-then (refused why w) f h n = h
+
+  -- ---- the parts of the calls
+
+  -- opening
+  module _ (s : Other k SHORT) (n : Other k NUMBER) where
+    of-got : (bytes : List ℕ) (at : ℕ) (g : Got) → Never k (gotAt bytes at g)
+    unfolding Never gotAt
+    of-got bytes at (got v j) = tt
+    of-got bytes at short = s
+    of-got bytes at (bad j) = n
+
+    of-number : (bytes : List ℕ) (at : ℕ) → Never k (numberAt bytes at)
+    unfolding numberAt
+    of-number bytes at = of-got bytes at _
+
+    of-numbers : (m : ℕ) (bytes : List ℕ) (at : ℕ) → Never k (numbersAt m bytes at)
+    unfolding numbersAt
+    of-numbers zero bytes at = at-done _
+    of-numbers (suc m) bytes at = at-then _ _ (of-number bytes at) (λ v. at-then _ _ (of-numbers m bytes (v .1)) (λ r. at-done _))
+
+    pub of-open : Other k EDITION → Other k HEADER → Other k LENGTH → (known : List Edition) (bytes : List ℕ) → Never k (openColumn known bytes)
+    unfolding openColumn
+    of-open e h l known bytes =
+        at-then _ _ (of-number bytes 0) (λ v.
+        at-then _ _ (at-given _ _ _ e) (λ ed.
+        at-then _ _ (of-numbers 8 bytes (v .1)) (λ r. at-need _ _ _ _ h (at-need _ _ _ _ l (at-done _)))))
+
+  -- what follows it in the check and the reading
+  pub of-accepted : Other k DAMAGED → (bytes : List ℕ) (c : Opened) → Never k (accepted bytes c)
+  unfolding accepted
+  of-accepted d bytes c = at-then _ _ (at-given _ _ _ d) (λ q. at-need _ _ _ _ d (at-done q))
+
+  -- and in the look-up
+  module _ (b : Other k BROKEN) (bytes : List ℕ) (c : Opened) where
+    of-answer : (o : ℕ) (x : Place) → Never k (answer bytes c o x)
+    unfolding Never answer
+    of-answer o (inside i w) = at-then _ _ (at-given _ _ _ b) (λ v. tt)
+    of-answer o (nowhere w) = tt
+    of-answer o broken = b
+
+    of-entry : (rule : Rule) (id : ℕ) (e : Entry) → Never k (fromEntry rule bytes c id e)
+    unfolding fromEntry
+    of-entry rule id e =
+        at-need _ _ _ _ b
+        (at-need _ _ _ _ b
+        (at-cond (not (eqb (lowAt 2 (idPart bytes c) (e .1)) (id / blockPlaces))) _ _ (at-done (absent 0))
+        (at-need _ BROKEN 0 _ b (of-answer (e .0) _))))
+
+    pub of-steps : (rule : Rule) (id : ℕ) → Never k (steps rule bytes c id)
+    unfolding steps
+    of-steps rule id = of-entry rule id _
