@@ -26,10 +26,11 @@ static void tell(uint32_t id, signalfern_answer answer)
 {
     switch (answer.kind) {
     case SIGNALFERN_FOUND:
-        printf("id %" PRIu32 ": value %" PRId64 ", ordinal %" PRIu64 "\n", id, answer.value, answer.ordinal);
+        printf("id %" PRIu32 ": value %" PRId64 ", ordinal %" PRIu64 ", probes %" PRIu64 "\n", id, answer.value,
+               answer.ordinal, answer.probes);
         break;
     case SIGNALFERN_ABSENT:
-        printf("id %" PRIu32 ": not listed\n", id);
+        printf("id %" PRIu32 ": not listed, probes %" PRIu64 "\n", id, answer.probes);
         break;
     default:
         refuse("look up", answer.kind, answer.number);

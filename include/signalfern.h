@@ -90,6 +90,7 @@ typedef struct {
     uint64_t ordinal; /* Found: the id's index in the list, from 0. */
     int64_t value;    /* Found: the id's value. */
     uint64_t words;   /* Found or absent: how many 64-bit words of a bitmap were looked at, 0 to 1024. */
+    uint64_t probes;  /* Found or absent: how many entries of a sparse block were probed, 0 to 12. */
 } signalfern_answer;
 
 /*

@@ -30,12 +30,16 @@ pub enum Answer {
         value: i64,
         /// How many 64-bit words of a bitmap were looked at.
         words: u64,
+        /// How many entries of a sparse block were probed.
+        probes: u64,
     },
     /// The id is not listed.
     #[non_exhaustive]
     Absent {
         /// How many 64-bit words of a bitmap were looked at.
         words: u64,
+        /// How many entries of a sparse block were probed.
+        probes: u64,
     },
 }
 
@@ -69,7 +73,23 @@ impl Answer {
     #[must_use]
     pub const fn words(self) -> u64 {
         match self {
-            Self::Found { words, .. } | Self::Absent { words } => words,
+            Self::Found { words, .. } | Self::Absent { words, .. } => words,
+        }
+    }
+
+    /// How many entries of a sparse block were probed: at most 12, and 0 in a block of another kind.
+    ///
+    /// ```
+    /// let column = signalfern::write_to_vec(&[0, 2, 7], &[150, 140, 135], 9)?;
+    /// // The middle one is probed first.
+    /// assert_eq!(signalfern::look_up(&column, 2)?.probes(), 1);
+    /// assert_eq!(signalfern::look_up(&column, 7)?.probes(), 2);
+    /// # Ok::<(), signalfern::Error>(())
+    /// ```
+    #[must_use]
+    pub const fn probes(self) -> u64 {
+        match self {
+            Self::Found { probes, .. } | Self::Absent { probes, .. } => probes,
         }
     }
 }
@@ -93,9 +113,11 @@ pub(crate) fn answer(answer: ffi::Answer) -> Result<Answer, Refusal> {
             ordinal: answer.ordinal,
             value: answer.value,
             words: answer.words,
+            probes: answer.probes,
         }),
         1 => Ok(Answer::Absent {
             words: answer.words,
+            probes: answer.probes,
         }),
         refusal => Err(Refusal::given(refusal, answer.number)),
     }

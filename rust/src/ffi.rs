@@ -20,6 +20,7 @@ pub(crate) struct Answer {
     pub ordinal: u64,
     pub value: i64,
     pub words: u64,
+    pub probes: u64,
 }
 
 #[repr(C)]

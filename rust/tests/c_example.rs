@@ -32,15 +32,16 @@ fn build_and_run(source: &Path, compiler: &[&str]) -> String {
 #[test]
 fn the_example_writes_checks_reads_and_looks_up() {
     let printed = build_and_run(Path::new("examples/column.c"), &["-std=c99"]);
+    // Of the places 0, 2 and 7, 2 is probed first.
     let expected = "\
 27 bytes, 3 pairs
 0 150
 2 140
 7 135
-id 7: value 135, ordinal 2
+id 7: value 135, ordinal 2, probes 2
 smallest value 135
-id 2: value 140, ordinal 1
-id 5: not listed
+id 2: value 140, ordinal 1, probes 1
+id 5: not listed, probes 2
 ";
     assert_eq!(printed, expected);
 }

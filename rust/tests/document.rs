@@ -31,10 +31,11 @@ fn no_pairs() {
     expected.extend([0; 8]);
     assert_eq!(list(&[], &[], 9), expected);
     for id in [0, 1, 65_536, MAX_ID] {
-        assert_eq!(
-            same::look_up(&expected, id),
-            Ok(Answer::Absent { words: 0 })
-        );
+        let absent = Answer::Absent {
+            words: 0,
+            probes: 0,
+        };
+        assert_eq!(same::look_up(&expected, id), Ok(absent));
     }
 }
 
@@ -150,12 +151,14 @@ fn order_and_range() {
         ordinal: 0,
         value: 12,
         words: 0,
+        probes: 1,
     };
     assert_eq!(same::look_up(&last, MAX_ID), Ok(found));
-    assert_eq!(
-        same::look_up(&last, MAX_ID - 1),
-        Ok(Answer::Absent { words: 0 })
-    );
+    let absent = Answer::Absent {
+        words: 0,
+        probes: 1,
+    };
+    assert_eq!(same::look_up(&last, MAX_ID - 1), Ok(absent));
 }
 
 #[test]
@@ -219,6 +222,7 @@ fn a_column_of_all_ids() {
             ordinal: u64::from(id),
             value: 42,
             words: 0,
+            probes: 0,
         };
         assert_eq!(same::look_up(&column, id), Ok(found));
     }

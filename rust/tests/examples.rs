@@ -55,12 +55,21 @@ fn refused() {
 fn look_up() {
     let printed = run("look_up", &[]);
     let lines: Vec<&str> = printed.lines().collect();
-    assert_eq!(lines[0], "0: 0, the pair with ordinal 0");
-    assert_eq!(lines[1], "600: 6000, the pair with ordinal 200");
-    assert_eq!(lines[2], "601: not listed, 1 word read");
-    assert_eq!(lines[3], "65535: 655350, the pair with ordinal 21845");
+    // Words of a stride of eight: the first, the second (600 div 64 is 9), one for a clear bit, and
+    // all. Of 656 places number 328 is probed first; the 327 above it can be halved nine times.
+    let expected = "\
+0: 0, the pair with ordinal 0; words 1, probes 0
+600: 6000, the pair with ordinal 200; words 2, probes 0
+601: not listed; words 1, probes 0
+65535: 655350, the pair with ordinal 21845; words 8, probes 0
+98336: 983360, the pair with ordinal 22174; words 0, probes 1
+98337: not listed; words 0, probes 10";
+    assert_eq!(lines[..6], expected.lines().collect::<Vec<_>>());
     // The flipped bit adds one to the rank of the first stride alone.
-    assert_eq!(lines[5], "0: 30, the pair with ordinal 1");
-    assert_eq!(lines[6], lines[1]);
-    assert_eq!(lines[7], "the check: Err(Damaged)");
+    assert_eq!(
+        lines[7],
+        "0: 30, the pair with ordinal 1; words 1, probes 0"
+    );
+    assert_eq!(lines[8], lines[1]);
+    assert_eq!(lines[9], "the check: Err(Damaged)");
 }

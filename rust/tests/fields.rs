@@ -153,6 +153,7 @@ fn columns_of_full_blocks() {
                 ordinal: u64::from(id),
                 value: 41,
                 words: 0,
+                probes: 0,
             };
             assert_eq!(same::look_up(&column, id), Ok(found));
         }

@@ -23,7 +23,9 @@ fn there_and_back() {
     let read = run(&["read", &column]).expect(0, &[]);
     assert_eq!(read.out, "0 150\n2 140\n7 135\n");
     let asked = run(&["look-up", &column, "7", "5", "2147352575"]).expect(0, &[]);
-    let answers = "7 135 ordinal 2 words 0\n5 absent words 0\n2147352575 absent words 0\n";
+    // Places 0, 2 and 7: the one in the middle is probed first. The last id's block is not there.
+    let answers = "7 135 ordinal 2 words 0 probes 2\n5 absent words 0 probes 2\n\
+                   2147352575 absent words 0 probes 0\n";
     assert_eq!(asked.out, answers);
     run(&["show", &column]).expect(0, &["smallest value", "135", "sparse", "end block"]);
 
@@ -132,7 +134,7 @@ fn ids_that_are_too_great() {
     let asked = run(&["look-up", &file, "2147352576", "7"]);
     assert_eq!(
         (asked.status, asked.out.as_str()),
-        (1, "7 135 ordinal 2 words 0\n")
+        (1, "7 135 ordinal 2 words 0 probes 2\n")
     );
 }
 

@@ -51,7 +51,7 @@ fn unchecked_says_so() {
         let ran = run(&["look-up", "--unchecked", file, "7"]);
         assert_eq!(
             (ran.status, ran.out.as_str()),
-            (0, "7 135 ordinal 2 words 0\n")
+            (0, "7 135 ordinal 2 words 0 probes 2\n")
         );
         assert!(ran
             .err
@@ -66,12 +66,28 @@ fn unchecked_says_so() {
 }
 
 #[test]
+fn what_it_cost() {
+    let folder = Folder::new("cost");
+    // Block 0 is a bitmap of 5000 ones, with ranks to every 512 places; block 1 lists three places.
+    let mut ids: Vec<u32> = (0..5000).collect();
+    ids.extend([65_536, 65_538, 65_543]);
+    let column = folder.column("column", &ids, &vec![7; ids.len()]);
+    // Place 600 is in the second word of its stride; a clear bit costs one word.
+    let ran = run(&["look-up", &column, "600", "6000", "65538", "65539"]).expect(0, &[]);
+    let answers = "600 7 ordinal 600 words 2 probes 0\n6000 absent words 1 probes 0\n\
+                   65538 7 ordinal 5001 words 0 probes 1\n65539 absent words 0 probes 2\n";
+    assert_eq!(ran.out, answers);
+}
+
+#[test]
 fn ids_from_a_file_or_standard_input() {
     let folder = Folder::new("ids");
     let column = folder.column("column", &[0, 2, 7], &[150, 140, 135]);
     let list = folder.put("ids", "7 2\n\n  # none\n5\t0 # these\n");
-    let answers = "2 140 ordinal 1 words 0\n7 135 ordinal 2 words 0\n2 140 ordinal 1 words 0\n\
-                   5 absent words 0\n0 150 ordinal 0 words 0\n";
+    // Of the places 0, 2 and 7, 2 is probed first.
+    let answers = "2 140 ordinal 1 words 0 probes 1\n7 135 ordinal 2 words 0 probes 2\n\
+                   2 140 ordinal 1 words 0 probes 1\n5 absent words 0 probes 2\n\
+                   0 150 ordinal 0 words 0 probes 2\n";
     let ran = run(&["look-up", &column, "2", "--ids", &list]).expect(0, &[]);
     assert_eq!(ran.out, answers);
     let ran = run_with(&["look-up", &column, "2", "-i-"], &folder.bytes("ids")).expect(0, &[]);
@@ -85,7 +101,7 @@ fn ids_from_a_file_or_standard_input() {
     assert_eq!(ran.status, 1);
     assert_eq!(
         ran.out,
-        "7 135 ordinal 2 words 0\n2 140 ordinal 1 words 0\n"
+        "7 135 ordinal 2 words 0 probes 2\n2 140 ordinal 1 words 0 probes 1\n"
     );
     assert!(
         ran.err

@@ -5,6 +5,7 @@ use Rattle.format.proofs.Starred.{Starred, starred}
 use Rattle.format.proofs.Pins.{WriterCases, writer-cases, DivisorCases, divisor-cases, HeaderCases, header-cases}
 use Rattle.format.proofs.PinsPlaces.{PlaceCases, place-cases}
 use Rattle.format.proofs.PinsSteps.{DamageCases, damage-cases, StepCases, step-cases, WalkCases, walk-cases}
+use Rattle.format.proofs.PinsProbes.{HalvingCases, halving-cases, ProbeCases, probe-cases}
 
 pub record AllCases : Type 0 where
   pub starred-table : Starred
@@ -15,6 +16,8 @@ pub record AllCases : Type 0 where
   pub damage-table : DamageCases
   pub step-table : StepCases
   pub walk-table : WalkCases
+  pub halving-table : HalvingCases
+  pub probe-table : ProbeCases
 
 pub all-cases : AllCases
 all-cases =
@@ -27,4 +30,6 @@ all-cases =
       damage-table = damage-cases;
       step-table = step-cases;
       walk-table = walk-cases;
+      halving-table = halving-cases;
+      probe-table = probe-cases;
     }

@@ -16,8 +16,9 @@ use Rattle.format.specs.Column.{headOf, headNumbers, column}
 use Rattle.format.specs.Writer.{notAbove, orderFault, rangeFault, writeAs, writeReply}
 use Rattle.format.specs.Opening.{openColumn, headFrom, headOk, idPart, valuePart, valueIn, valueOf}
 use Rattle.format.specs.Check.{check, allValues, pairsIn, isDone, isColumn, accepted, reading}
-use Rattle.format.specs.LookUp.{scan, inSparse, onesFrom, strideLong, strideRank, denseAt, placeAt, entryAt, answer, fromEntry, steps, lookUp, lookUpIn}
-use Rattle.format.specs.Walk.{indexOf, seenOr, walkFrom, walk}
+use Rattle.format.specs.LookUp.{scan, halveIn, halve, inSparse, onesFrom, strideLong, strideRank, denseAt, placeAt, probesAt, entryAt, answer, fromEntry}
+use Rattle.format.specs.LookUp.{steps, entered, probesFrom, stepProbes, lookUp, openedProbes, lookUpProbes, lookUpIn}
+use Rattle.format.specs.Walk.{indexOf, seenOr, walkFrom, walk, listedPlaces, probes}
 
 unfoldable pub computing : Type 0
 unfolding bind onesIn andThen need given needNone bytesOf countFrom digits same fromDigits lowAt highAt groups number above readGroups readNumber
@@ -25,6 +26,7 @@ unfolding bind onesIn andThen need given needNone bytesOf countFrom digits same 
     rankTable blockData blockOf endBlock jumpsFrom notTwo jumps entryBytes blocks idSection shorts placesIn readRuns idsOf leastOf mostOf smallest
     greatest spread gcdIn gcd gcdFrom differences divisor bitsIn bitLength width stored valueAt scaled signed64 numberOf editions editionIn highFirst
     codec headOf headNumbers column notAbove orderFault rangeFault writeAs writeReply openColumn headFrom headOk idPart valuePart valueIn valueOf
-    check allValues pairsIn isDone isColumn accepted reading scan inSparse onesFrom strideLong strideRank denseAt placeAt entryAt answer fromEntry
-    steps lookUp lookUpIn indexOf seenOr walkFrom walk
+    check allValues pairsIn isDone isColumn accepted reading scan halveIn halve inSparse onesFrom strideLong strideRank denseAt placeAt probesAt
+    entryAt answer fromEntry steps entered probesFrom stepProbes lookUp openedProbes lookUpProbes lookUpIn indexOf seenOr walkFrom walk
+    listedPlaces probes
 computing = Unit {0}

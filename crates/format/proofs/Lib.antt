@@ -6,6 +6,7 @@ pub mod Starred
 pub mod Pins
 pub mod PinsPlaces
 pub mod PinsSteps
+pub mod PinsProbes
 pub mod Demands
 pub mod Meaning
 pub mod MeaningValues
@@ -41,9 +42,12 @@ pub mod Ones
 pub mod Dense
 pub mod Find
 pub mod Place
+pub mod Halving
 pub mod Skip
+pub mod Entered
 pub mod FromEntry
 pub mod Looked
+pub mod Probes
 pub mod Walked
 pub mod Words
 pub mod Never

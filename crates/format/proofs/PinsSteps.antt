@@ -118,9 +118,9 @@ pub record StepCases : Type 0 where
   pub ordinals-past : lookUp editions (fives 0 1 (sparseBlock 0 (7 ∷ []) ++ endBlock) ((1, 0) ∷ [])) 7 ≡ refused BROKEN 0
   -- step 4 decides before step 5: an id that is not there
   pub broken-first : lookUp editions (fives 0 1 (sparseBlock 0 (7 ∷ []) ++ endBlock) ((1, 0) ∷ [])) 8 ≡ refused BROKEN 0
-  -- step 5: the scan stops at the first entry that is r or above
-  pub scan-stops : lookUp editions (fives 0 3 (sparseBlock 0 (0 ∷ 7 ∷ 2 ∷ []) ++ endBlock) []) 2 ≡ done (absent 0)
-  pub scan-finds : lookUp editions (fives 0 3 (sparseBlock 0 (0 ∷ 7 ∷ 2 ∷ []) ++ endBlock) []) 7 ≡ done (found 1 (pos 5) 0)
+  -- step 5: an entry above r that is probed hides those after it (PinsProbes has more)
+  pub above-stops : lookUp editions (fives 0 3 (sparseBlock 0 (0 ∷ 7 ∷ 2 ∷ []) ++ endBlock) []) 2 ≡ done (absent 0)
+  pub above-found : lookUp editions (fives 0 3 (sparseBlock 0 (0 ∷ 7 ∷ 2 ∷ []) ++ endBlock) []) 7 ≡ done (found 1 (pos 5) 0)
   pub full-block : lookUp editions (fives 0 65536 (blockHead 0 65536 ++ endBlock) []) 65535 ≡ done (found 65535 (pos 5) 0)
   -- step 6: a clear bit is absent with 1 word, whatever the ranks; a set bit's inner place must be below c; words of the stride
   pub bit-clear : lookUp editions (denseBy 0) 4096 ≡ done (absent 1)

@@ -111,7 +111,7 @@ module _ (ed : Edition) (law : Lawful (codec ed)) (p : ℕ) (ids : List ℕ) (vs
       walk-runs (column ed p ids vs) (the-column ed p ids vs) id (idSection p ids) (bytesOf entryBytes (jumps p ids)) (ids-part ed law p ids vs ok)
       (power16 p ids vs ok) (suc (length (idSection p ids))) 0 0 0 (runs ids) (blocks-asc p ids vs ok) (blocks-fine p ids vs ok)
       (omega (arith, runs-le p (runs ids), section-is p ids vs ok)) refl
-      ∙ rw (zero-add, ← the-count p ids vs ok id hid, ← the-test p ids vs ok id hid)
+      ∙ rw (zero-add, ← the-count p ids vs ok id, ← the-test p ids vs ok id)
       (true-or (listed id ids)
       (λ e. rw e (ap (seen (countBelow id ids)) (value-is ed law p ids vs ok (countBelow id ids) (count-lt id ids e))))
       (λ e. rw e))

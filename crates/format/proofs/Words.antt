@@ -11,7 +11,7 @@ use Rattle.format.specs.Ids.{Entry, Kind, sparse, dense, all, kindOf, by
 use Rattle.format.specs.IdsRead.{shorts}
 use Rattle.format.specs.Pairs.{Asc}
 use Rattle.format.specs.Opening.{Opened, openColumn, idPart}
-use Rattle.format.specs.LookUp.{Look, absent, Place, inside, nowhere, broken, Rule, scanned, inSparse, onesFrom, strideLong, strideRank, denseAt, placeAt}
+use Rattle.format.specs.LookUp.{Look, absent, Place, inside, nowhere, broken, Rule, halved, inSparse, onesFrom, strideLong, strideRank, denseAt, placeAt}
 use Rattle.format.specs.LookUp.{entriesAt, entryAt, answer, fromEntry, steps, lookUp, lookUpIn}
 use Rattle.format.specs.Walk.{inBlock, listed, words, strideWords, FewWords}
 use Rattle.format.proofs.Cases.{below-or, equal-or, true-or}
@@ -131,14 +131,14 @@ pub few-words : (known : List Edition) (bytes : List ℕ) (c : Opened) (id : ℕ
     → FewWords (c .head .power) (done l)
 unfolding lookUp andThen
 few-words known bytes c id l o e =
-    steps-few scanned bytes c id l (head-facts (c .head) (opened-ok known bytes c o .rules) .power) (rw o at (needed _ _ _ _ l e .1))
+    steps-few halved bytes c id l (head-facts (c .head) (opened-ok known bytes c o .rules) .power) (rw o at (needed _ _ _ _ l e .1))
 
 few-words-in : (bytes : List ℕ) (c : Opened) (id : ℕ) (l : Look) → lookUpIn bytes c id ≡ done l → FewWords (c .head .power) (done l)
 unfolding lookUpIn
 few-words-in bytes c id l e =
     let s1 = needed _ _ _ _ l e in
     let s2 = needed _ _ _ _ l (s1 .1) in
-    steps-few scanned bytes c id l (head-facts (c .head) (s2 .0) .power) (needed _ _ _ _ l (s2 .1) .1)
+    steps-few halved bytes c id l (head-facts (c .head) (s2 .0) .power) (needed _ _ _ _ l (s2 .1) .1)
 
 -- whatever the answer
 few-of : (p : ℕ) (r : Outcome Look) → ((l : Look) → r ≡ done l → FewWords p (done l)) → FewWords p r

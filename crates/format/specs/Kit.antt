@@ -34,4 +34,6 @@ pub use lib.Signed.{leZ, ltZ, mag, nonNeg, pos-natAbs}
 pub use borrow.Author.Needs.{needs}
 pub use borrow.Author.Tests.{eq-eqb, eqb-false, eqb-true, le-leb, le-ltb, leb-false, leb-true, lt-leb, lt-ltb, ltb-false, ltb-true, ne-eqb, not-false}
 pub use borrow.Author.Tests.{not-true}
+pub use borrow.Fn.Kinds.{In}
+pub use borrow.Fn.PlainCycle.{Measures, and, falls, is}
 pub use borrow.Rule.Slice.PartMut.{post-is, postOf, putMid}

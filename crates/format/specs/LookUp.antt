@@ -1,7 +1,7 @@
--- Document 01, "The look-up, step by step": the steps fix the answer for any bytes, and the first step that fails decides it.
--- Assumes nothing.
-use Rattle.format.specs.Kit.{ℕ, zero, suc, _+_, _-_, _*_, _/_, _%_, _^_, min, cond, not, _&&_, _||_, List, [], _∷_, Option, none, some, drop}
-use Rattle.format.specs.Kit.{leb, ltb, eqb, onesIn, ℤ}
+-- Document 01, "The look-up, step by step": the steps fix the answer for any bytes, and the first step that fails decides it. Step 5 is
+-- that of document 02, [8]. Assumes nothing.
+use Rattle.format.specs.Kit.{ℕ, zero, suc, _+_, _-_, _*_, _/_, _%_, _^_, min, Bool, cond, not, _&&_, _||_, List, [], _∷_, Option, none, some}
+use Rattle.format.specs.Kit.{length, getD, drop, leb, ltb, eqb, onesIn, ℤ}
 use Rattle.format.specs.Limits.{maxId, blockPlaces}
 use Rattle.format.specs.Refusals.{Outcome, done, refused, andThen, need, given, HEADER, LENGTH, ID, BROKEN}
 use Rattle.format.specs.Bytes.{lowAt, highAt}
@@ -37,6 +37,41 @@ scan r i (x ∷ xs) = cond (ltb x r) (scan r (suc i) xs) (cond (eqb x r) (some i
 abbrev pub scanned : Rule
 scanned r xs = scan r 0 xs
 
+-- what halving tells: the index of r, or none, and the probes, the number of entries read
+pub record Sought : Type 0 where
+  pub index : Option ℕ
+  pub probes : ℕ
+
+abbrev pub hit : ℕ → ℕ → Sought
+hit i n = record { index = some i; probes = n }
+
+abbrev pub miss : ℕ → Sought
+miss n = record { index = none; probes = n }
+
+-- Document 02, [8], over entries lo to hi (hi not included), of which n were read before: probe (lo + hi) div 2; equal stops, below r
+-- moves lo past the probe, above r moves hi to it. At most f probes more.
+unfoldable pub halveIn : ℕ → ℕ → List ℕ → ℕ → ℕ → ℕ → Sought
+halveIn zero r xs lo hi n = miss n
+halveIn (suc f) r xs lo hi n =
+    let m : ℕ = (lo + hi) / 2 in
+    let x : ℕ = getD xs m 0 in
+    let past : Sought = halveIn f r xs (suc m) hi (suc n) in
+    let before : Sought = halveIn f r xs lo m (suc n) in
+    let probed : Sought = cond (eqb x r) (hit m (suc n)) (cond (ltb x r) past before) in
+    cond (ltb lo hi) probed (miss n)
+
+-- hi minus lo falls with each probe, so that as many are enough
+unfoldable pub halve : ℕ → List ℕ → ℕ → ℕ → ℕ → Sought
+halve r xs lo hi n = halveIn (hi - lo) r xs lo hi n
+
+-- over all entries
+abbrev pub halving : ℕ → List ℕ → Sought
+halving r xs = halve r xs 0 (length xs) 0
+
+-- document 02's rule
+abbrev pub halved : Rule
+halved r xs = halving r xs .index
+
 -- no rule counts words
 unfoldable pub inSparse : Option ℕ → Place
 inSparse (some i) = inside i 0
@@ -67,6 +102,10 @@ denseAt p s t c r =
 unfoldable pub placeAt : Rule → ℕ → List ℕ → ℕ → ℕ → ℕ → Place
 placeAt rule p s t c r =
     byKind (kindOf c) (inSparse (rule r (shorts c (drop t s)))) (denseAt p s t c r) (inside r 0)
+
+-- the probes there by document 02's rule, 0 for other kinds
+unfoldable pub probesAt : List ℕ → ℕ → ℕ → ℕ → ℕ
+probesAt s t c r = byKind (kindOf c) (halving r (shorts c (drop t s)) .probes) 0 0
 
 -- ---- the steps
 
@@ -105,17 +144,46 @@ unfoldable pub steps : Rule → List ℕ → Opened → ℕ → Outcome Look
 steps rule bytes c id =
     fromEntry rule bytes c id (entryAt (idPart bytes c) (entriesAt (c .head)) (c .head .jumpCount) (id / blockPlaces))
 
+-- ---- the probes, beside the answer (document 02, [8])
+
+-- whether steps 2 to 4 lead into the block at an entry
+unfoldable pub entered : List ℕ → Opened → ℕ → Entry → Bool
+entered bytes col id e =
+    let h : Head = col .head in
+    let s : List ℕ = idPart bytes col in
+    let c : ℕ = lowAt 2 s (e .1 + 2) + 1 in
+    leb (e .1 + 4) (entriesAt h)
+    && (eqb (lowAt 2 s (e .1)) (id / blockPlaces) && (leb (e .1 + blockBytes (h .power) c) (entriesAt h) && leb (e .0 + c) (h .count)))
+
+-- those in the block that is entered, 0 where none is
+unfoldable pub probesFrom : List ℕ → Opened → ℕ → Entry → ℕ
+probesFrom bytes col id e =
+    let s : List ℕ = idPart bytes col in
+    cond (entered bytes col id e) (probesAt s (e .1 + 4) (lowAt 2 s (e .1 + 2) + 1) (id % blockPlaces)) 0
+
+unfoldable pub stepProbes : List ℕ → Opened → ℕ → ℕ
+stepProbes bytes c id =
+    probesFrom bytes c id (entryAt (idPart bytes c) (entriesAt (c .head)) (c .head .jumpCount) (id / blockPlaces))
+
 -- ---- the calls
 
 -- 14, then 7 to 11, then 15
 unfoldable pub lookUp : List Edition → List ℕ → ℕ → Outcome Look
-lookUp known bytes id = need (leb id maxId) ID 0 (andThen (openColumn known bytes) (λ c. steps scanned bytes c id))
+lookUp known bytes id = need (leb id maxId) ID 0 (andThen (openColumn known bytes) (λ c. steps halved bytes c id))
+
+-- the probes of that, none where the bytes are not opened
+unfoldable pub openedProbes : List ℕ → ℕ → Outcome Opened → ℕ
+openedProbes bytes id (done c) = stepProbes bytes c id
+openedProbes bytes id (refused why w) = 0
+
+unfoldable pub lookUpProbes : List Edition → List ℕ → ℕ → ℕ
+lookUpProbes known bytes id = openedProbes bytes id (openColumn known bytes)
 
 -- From a column that was opened before, or any numbers in its place: 14; 10 where they break a header rule; 11 where they do not
--- fit these bytes; 15. (Not in document 01: docs/DECISIONS.md.)
+-- fit these bytes; 15. (Not in document 01: docs/DECISIONS.md.) Its probes are `stepProbes`.
 unfoldable pub lookUpIn : List ℕ → Opened → ℕ → Outcome Look
 lookUpIn bytes c id =
     need (leb id maxId) ID 0
     (need (headOk (c .head)) HEADER 0
     (need (lengthOk bytes c) LENGTH 0
-    (steps scanned bytes c id)))
+    (steps halved bytes c id)))

@@ -1,13 +1,13 @@
 -- Document 01, "The walk over all blocks, and the words": what demand 3 holds the look-up against. Assumes nothing.
-use Rattle.format.specs.Kit.{ℕ, zero, suc, _+_, _-_, _/_, _%_, _^_, _≤_, Bool, false, cond, _||_, List, [], _∷_, Option, none, some, getD, drop}
-use Rattle.format.specs.Kit.{eqb, ℤ, pos}
+use Rattle.format.specs.Kit.{ℕ, zero, suc, _+_, _-_, _/_, _%_, _^_, _≤_, Bool, false, cond, _||_, List, [], _∷_, Option, none, some, length}
+use Rattle.format.specs.Kit.{getD, drop, eqb, ℤ, pos}
 use Rattle.format.specs.Limits.{blockPlaces, bitmapLongs, endNumber}
 use Rattle.format.specs.Refusals.{Outcome, done, refused}
 use Rattle.format.specs.Bytes.{lowAt}
 use Rattle.format.specs.Ids.{kindOf, byKind, blockBytes, countBelow}
 use Rattle.format.specs.IdsRead.{placesIn}
 use Rattle.format.specs.Opening.{Opened, idPart, valueOf}
-use Rattle.format.specs.LookUp.{Look, found, absent}
+use Rattle.format.specs.LookUp.{Look, found, absent, halving}
 
 -- ---- the walk: it uses no jump entry and no rank, and counts no words
 
@@ -73,6 +73,21 @@ abbrev pub FewWords : ℕ → Outcome Look → Type 0
 FewWords p (done (found o v w)) = w ≤ strideWords p
 FewWords p (done (absent w)) = w ≤ 1
 FewWords p (refused why x) = Unit
+
+-- ---- the probes, for the list of accepted bytes (document 02, [8])
+
+-- the places of the listed ids in block b
+unfoldable pub listedPlaces : ℕ → List ℕ → List ℕ
+listedPlaces b [] = []
+listedPlaces b (i ∷ is) =
+    let more : List ℕ = listedPlaces b is in
+    cond (eqb (i / blockPlaces) b) (i % blockPlaces ∷ more) more
+
+-- those of halving the block's places, 0 if it is no sparse block
+unfoldable pub probes : List ℕ → ℕ → ℕ
+probes ids id =
+    let rs : List ℕ = listedPlaces (id / blockPlaces) ids in
+    byKind (kindOf (length rs)) (halving (id % blockPlaces) rs .probes) 0 0
 
 -- ---- the pair list's own answer
 

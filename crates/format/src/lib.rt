@@ -34,9 +34,11 @@ pub enum Answer {
         ordinal: u64,
         value: i64,
         words: u64,
+        probes: u64,
     },
     Absent {
         words: u64,
+        probes: u64,
     },
     Refused(Refusal),
 }

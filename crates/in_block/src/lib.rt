@@ -1,93 +1,83 @@
 // Where a place stands in its block: steps 5 and 6 of document 01, "The look-up, step by step".
 ghost use mathlib.Core.Path.{_≡_};
 ghost use Prim.Native.Nat.{ℕ, _+_, _-_, _*_, _/_, _%_, _^_, _≤_, _<_};
-ghost use mathlib.Core.Bool.{false, _||_};
-ghost use lib.Dec.{leb};
-ghost use Rattle.format.specs.Bytes.{lowAt};
+ghost use mathlib.Core.Bool.{cond};
+ghost use lib.Dec.{ltb};
 ghost use lib.ListN.{length, drop};
 ghost use lib.Count.{onesIn};
-ghost use Rattle.format.specs.Limits.{Power, blockPlaces, bitmapBytes};
+ghost use Rattle.format.specs.Limits.{Power, blockPlaces, denseCount, bitmapBytes};
 ghost use Rattle.format.specs.Ids.{kindOf, rankBytes, dataBytes};
 ghost use Rattle.format.specs.IdsRead.{shorts};
-ghost use Rattle.format.specs.LookUp.{scan, scanned, inSparse, strideLong, strideRank, denseAt, placeAt};
+ghost use Rattle.format.specs.LookUp.{halve, halving, halved, probesAt, strideLong, strideRank, denseAt, placeAt};
 ghost use Rattle.blocks.specs.Kinds.{kindIs};
-ghost use Rattle.in_block.specs.Place.{placeOf, Below};
+ghost use Rattle.in_block.specs.Place.{placeOf, probesOf, Below, inOneWord, Searched};
 use blocks::Block;
 use blocks::Kind;
 
-// A place's index in its block and the words counted, not there with the words, or a failed step.
+// A place's index in its block, the words counted and the entries probed; not there, with both; or a failed step. (32 bits for the
+// index: both cases then have words and probes in the same place, and nothing goes through memory.)
 pub enum Inner {
-    At { inner: u64, words: u64 },
-    Absent { words: u64 },
+    At { inner: u32, words: u64, probes: u64 },
+    Absent { words: u64, probes: u64 },
     Broken,
 }
 
-// ---- step 5, sparse
+// ---- step 5, sparse (document 02, [8])
 
-// Entries as the format has them, so that eight fit one machine word of sixteen bytes.
-fn entry_at(s: &[u8], i: usize) -> u16
-    requires { ⌜ i + 2 ≤ length (now s) ⌝ }
-    ensures { λ r. ⌜ r ≡ lowAt 2 (now (s .entry)) i ⌝ }
+// What is chosen after a probe that gave x: `past` where x is below r, and `before` otherwise. (Both ends move by it, so that neither
+// is guessed: which half is left cannot be foretold.)
+fn left(x: u32, r: u32, past: usize, before: usize) -> usize
+    ensures { λ n. ⌜ n ≡ cond (ltb x r) past before ⌝ }
 {
-    (s[i] as u16) + (s[i + 1] as u16) * 256
-}
-
-// Whether one was found before, or x is r or above. Both are asked at once: no branch.
-fn or_from(some: bool, r: u16, x: u16) -> bool
-    ensures { λ q. ⌜ q ≡ (some || leb r x) ⌝ }
-{
-    some | (r <= x)
-}
-
-// Whether one of sixteen entries at `at` is r or above.
-fn some_from(s: &[u8], at: usize, r: u16) -> bool
-    requires { ⌜ at + 32 ≤ length (now s) ⌝ }
-    ensures { λ q. ⌜ (q ≡ false → (k : ℕ) → k < 16 → lowAt 2 (now (s .entry)) (at + 2 * k) < r) ⌝ }
-{
-    let mut some = false;
-    let mut k = 0;
-    while k < 16 {
-        some = or_from(some, r, entry_at(s, at + 2 * k));
-        k += 1;
+    if x < r {
+        return past;
     }
-    some
+    before
 }
 
-// How many entries, by sixteens, the scan may pass over at once.
-fn skipped(s: &[u8], at: usize, count: usize, r: u16) -> usize
-    requires { ⌜ at + 2 * count ≤ length (now s) ⌝ }
-    ensures { λ i. ⌜ (scan r 0 (shorts count (drop at (now (s .entry)))) ≡ scan r i (shorts (count - i) (drop (at + 2 * i) (now (s .entry))))) × (i ≤ count) ⌝ }
+// r among the entries lo to hi (hi not included) of those at `at`, after some probes: each probe halves what is left of the entries. The
+// slice by reference and the result in one word (16 times the index, or times 65536 where r is not there, and the probes), so that
+// nothing goes through memory and the call of itself is a jump.
+fn halve(s: &&[u8], at: usize, lo: usize, hi: usize, r: u32, probes: u64) -> u64
+    requires { ⌜ (lo ≤ hi) × (hi < blockPlaces) × (at + 2 * hi ≤ length (now (now s))) × (at + 2 * hi < 2 ^ 64)
+        × (probes + (hi - lo) < blockPlaces) ⌝ }
+    ensures { λ w. ⌜ ((c : ℕ) → hi ≤ c → w ≡ inOneWord (halve r (shorts c (drop at (now (now (s .entry))))) lo hi probes)) ⌝ }
 {
-    let mut i = 0;
-    while 16 <= count - i {
-        if some_from(s, at + 2 * i, r) {
-            return i;
-        }
-        i += 16;
+    if lo == hi {
+        return 16 * 65536 + probes;
     }
-    i
+    let m = (lo + hi) / 2;
+    let x = numbers::short_at(*s, at + 2 * m) as u32;
+    if x == r {
+        return 16 * numbers::long(m) + probes + 1;
+    }
+    halve(
+        s,
+        at,
+        left(x, r, m + 1, lo),
+        left(x, r, hi, m),
+        r,
+        probes + 1,
+    )
 }
 
-// Scans the entries at `at` in order to the first that is r or above.
+// r among the entries of a sparse block.
 fn sparse(s: &[u8], at: usize, count: usize, r: u64) -> Inner
-    requires { ⌜ (at + 2 * count ≤ length (now s)) × (r < blockPlaces) ⌝ }
-    ensures { λ a. ⌜ (placeOf a ≡ inSparse (scan r 0 (shorts count (drop at (now (s .entry)))))) × (Below count a) ⌝ }
+    requires { ⌜ (at + 2 * count ≤ length (now s)) × (count < denseCount) × (r < blockPlaces) ⌝ }
+    ensures { λ a. ⌜ (Searched (halving r (shorts count (drop at (now (s .entry))))) a) × (Below count a) × (probesOf a ≤ 12) ⌝ }
 {
-    let mut i = skipped(s, at, count, r as u16);
-    while i < count {
-        let x = numbers::short_at(s, at + 2 * i);
-        if r <= x {
-            if x == r {
-                return Inner::At {
-                    inner: numbers::long(i),
-                    words: 0,
-                };
-            }
-            return Inner::Absent { words: 0 };
-        }
-        i += 1;
+    let w = halve(&s, at, 0, count, r as u32, 0);
+    if w < 16 * 65536 {
+        return Inner::At {
+            inner: (w / 16) as u32,
+            words: 0,
+            probes: w % 16,
+        };
     }
-    Inner::Absent { words: 0 }
+    Inner::Absent {
+        words: 0,
+        probes: w % 16,
+    }
 }
 
 // ---- step 6, dense
@@ -132,14 +122,17 @@ fn stride_rank(s: &[u8], t: usize, p: usize, r: usize) -> u64
 // Place r of a dense block of `count` ids whose data start at t.
 fn dense(s: &[u8], t: usize, p: usize, count: usize, r: usize) -> Inner
     requires { ⌜ (Power p) × (r < blockPlaces) × (t + rankBytes p + bitmapBytes ≤ length (now s)) ⌝ }
-    ensures { λ a. ⌜ (placeOf a ≡ denseAt p (now (s .entry)) t count r) × (Below count a) ⌝ }
+    ensures { λ a. ⌜ (placeOf a ≡ denseAt p (now (s .entry)) t count r) × (Below count a) × (probesOf a ≡ 0) ⌝ }
 {
     let m = t + blocks::rank_bytes(p);
     let k = r / 64;
     let b = r % 64;
     let long = numbers::long_at(s, m + 8 * k);
     if bit_of(long, b) == 0 {
-        return Inner::Absent { words: 1 };
+        return Inner::Absent {
+            words: 1,
+            probes: 0,
+        };
     }
     let f = stride_long(p, r);
     let n = k - f;
@@ -147,8 +140,9 @@ fn dense(s: &[u8], t: usize, p: usize, count: usize, r: usize) -> Inner
     let i = before + ones_under(long, b);
     if i < numbers::long(count) {
         Inner::At {
-            inner: i,
+            inner: i as u32,
             words: numbers::long(n + 1),
+            probes: 0,
         }
     } else {
         Inner::Broken
@@ -161,7 +155,8 @@ fn dense(s: &[u8], t: usize, p: usize, count: usize, r: usize) -> Inner
 pub fn inner_of(s: &[u8], block: Block, p: usize, r: usize) -> Inner
     requires { ⌜ (Power p) × (r < blockPlaces) × (kindIs (block .kind) ≡ kindOf (block .count))
         × (block .start + dataBytes p (block .count) ≤ length (now s)) ⌝ }
-    ensures { λ a. ⌜ (placeOf a ≡ placeAt scanned p (now (s .entry)) (block .start) (block .count) r) × (Below (block .count) a) ⌝ }
+    ensures { λ a. ⌜ (placeOf a ≡ placeAt halved p (now (s .entry)) (block .start) (block .count) r) × (Below (block .count) a)
+        × (probesOf a ≡ probesAt (now (s .entry)) (block .start) (block .count) r) ⌝ }
 {
     let kind = block.kind;
     let start = block.start;
@@ -170,8 +165,9 @@ pub fn inner_of(s: &[u8], block: Block, p: usize, r: usize) -> Inner
         Kind::Sparse => sparse(s, start, count, numbers::long(r)),
         Kind::Dense => dense(s, start, p, count, r),
         Kind::All => Inner::At {
-            inner: numbers::long(r),
+            inner: r as u32,
             words: 0,
+            probes: 0,
         },
     }
 }

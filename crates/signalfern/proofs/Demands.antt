@@ -1,4 +1,4 @@
--- The three demands, stated for the shipped calls: r, c, q and a below are any replies that keep the promises of `write`, `check`,
+-- The three demands and the probes, stated for the shipped calls: r, c, q and a below are any replies that keep the promises of `write`, `check`,
 -- `read` and `look_up` in src/lib.rt, and a list with ′ is a lent buffer after the call. Assumes nothing.
 use Rattle.format.specs.Kit.{_≡_, refl, sym, ap, _∙_, subst, List, _++_, ℕ, _≤_, arith, ℤ, length, take, drop, take-at, le-leb}
 use Rattle.format.specs.Limits.{maxId}
@@ -9,15 +9,17 @@ use Rattle.format.specs.Column.{column}
 use Rattle.format.specs.Writer.{write, writeReply, writeOut}
 use Rattle.format.specs.Opening.{Opened, openColumn}
 use Rattle.format.specs.Check.{accepted, check, reading, readReply, idsAfter, valuesAfter}
-use Rattle.format.specs.LookUp.{lookUp}
-use Rattle.format.specs.Walk.{walk, wordless, words, strideWords, listAnswer}
-use Rattle.format.specs.Replies.{replyOf, answerOf}
+use Rattle.format.specs.LookUp.{stepProbes, lookUp, lookUpProbes}
+use Rattle.format.specs.Walk.{walk, wordless, words, strideWords, probes, listAnswer}
+use Rattle.format.specs.Replies.{replyOf, answerOf, Probed}
 use Rattle.format.specs.declared.Reply.{Reply}
+use Rattle.format.specs.declared.Answer as An
 use Rattle.format.specs.declared.Answer.{Answer}
 use Rattle.format.proofs.Tests.{result, passed}
 use Rattle.format.proofs.Editions.{lawful-reader}
 use Rattle.format.proofs.Unique.{written-valid, is-read}
 use Rattle.format.proofs.HeaderFaults.{BrokenAt, EndsAt, number-fault, short-fault, check-from, reading-from, look-up-from}
+use Rattle.format.proofs.Probes.{step-probes-few, opened-probes, look-up-probes-few, accepted-probes}
 use Rattle.format.proofs.Demands.{written-1, checked-1, read-back-1, accepted-answers}
 
 -- ---- demand 1: a refused call changes no byte that it was lent
@@ -205,3 +207,28 @@ module _ (bytes : List ℕ) (c : Reply) (n : ℕ) (kept : replyOf c ≡ check ed
       accepted-answers editions (lawful-reader editions) bytes (check-holds .opened) (check-holds .pairs) (check-holds .is-opened)
       (check-holds .is-accepted) id h in
       (k ∙ s .looked, s .walked, s .few-words)
+
+  -- and the probes are those of halving the places that the list has in the id's block (document 02, [8])
+  pub check-then-probes : (id : ℕ) → id ≤ maxId → (a : Answer) → Probed (lookUpProbes editions bytes id) a → Probed (probes (check-holds .pairs .ids) id) a
+  check-then-probes id h a k =
+      let o = check-holds .is-opened in
+      let s = accepted-probes editions (lawful-reader editions) bytes (check-holds .opened) (check-holds .pairs) o (check-holds .is-accepted) id h in
+      subst (λ (n : ℕ). Probed n a) (opened-probes editions bytes (check-holds .opened) id o ∙ s) k
+
+-- ---- at most 12 probes are told, on any bytes
+
+abbrev pub FewProbes : Answer → Type 0
+FewProbes (An.Answer.Found o v w n) = n ≤ 12
+FewProbes (An.Answer.Absent w n) = n ≤ 12
+FewProbes (An.Answer.Refused why) = Unit
+
+few : (n : ℕ) → n ≤ 12 → (a : Answer) → Probed n a → FewProbes a
+few n h (An.Answer.Found o v w k) e = omega arith
+few n h (An.Answer.Absent w k) e = omega arith
+few n h (An.Answer.Refused why) e = tt
+
+pub look-up-probes : (bytes : List ℕ) (id : ℕ) (a : Answer) → Probed (lookUpProbes editions bytes id) a → FewProbes a
+look-up-probes bytes id a k = few (lookUpProbes editions bytes id) (look-up-probes-few editions bytes id) a k
+
+pub look-up-in-probes : (bytes : List ℕ) (c : Opened) (id : ℕ) (a : Answer) → Probed (stepProbes bytes c id) a → FewProbes a
+look-up-in-probes bytes c id a k = few (stepProbes bytes c id) (step-probes-few bytes c id) a k

@@ -7,9 +7,9 @@ ghost use Rattle.format.specs.Check.{check, reading, readReply, idsAfter, value
 ghost use Rattle.format.specs.Refusals.{done};
 ghost use Rattle.format.specs.Editions.{editions};
 ghost use Rattle.format.specs.Opening.{Opened, openColumn};
-ghost use Rattle.format.specs.LookUp.{lookUp, lookUpIn};
+ghost use Rattle.format.specs.LookUp.{stepProbes, lookUp, lookUpProbes, lookUpIn};
 ghost use Rattle.format.specs.Walk.{FewWords};
-ghost use Rattle.format.specs.Replies.{replyOf, answerOf};
+ghost use Rattle.format.specs.Replies.{replyOf, answerOf, Probed};
 ghost use Rattle.column.specs.Opened.{columnOf};
 use column::Column;
 use format::Answer;
@@ -48,10 +48,11 @@ pub fn read(bytes: &[u8], ids: &mut [u32], values: &mut [i64]) -> Reply
 }
 
 // Looks one id up by jump entries and ranks: refusals 14, 7 to 11, 15. It reads the header, one jump entry, one block head, at most
-// one stride of words (or one block's, without ranks) and one value.
+// 12 entries or one stride of words (or one block's, without ranks) and one value. The answer tells the words and the entries probed.
 pub fn look_up(bytes: &[u8], id: u32) -> Answer
     ensures answers { λ r. ⌜ answerOf r ≡ lookUp editions (now (bytes .entry)) id ⌝ }
     ensures words { λ r. ⌜ ((c : Opened) → openColumn editions (now (bytes .entry)) ≡ done c → FewWords (c .head .power) (answerOf r)) ⌝ }
+    ensures probes { λ r. ⌜ Probed (lookUpProbes editions (now (bytes .entry)) id) r ⌝ }
 {
     lookup::look_up(bytes, id)
 }
@@ -61,6 +62,7 @@ pub fn look_up(bytes: &[u8], id: u32) -> Answer
 pub fn look_up_in(column: Column, bytes: &[u8], id: u32) -> Answer
     ensures answers { λ r. ⌜ answerOf r ≡ lookUpIn (now (bytes .entry)) (columnOf column) id ⌝ }
     ensures words { λ r. ⌜ FewWords (column .head .power) (answerOf r) ⌝ }
+    ensures probes { λ r. ⌜ Probed (stepProbes (now (bytes .entry)) (columnOf column) id) r ⌝ }
 {
     lookup::look_up_in(column, bytes, id)
 }

@@ -19,11 +19,11 @@ module _ (why : Refusal) (a b : ℕ) (ea : a ≡ refusalNumber why) (eb : b ≡ 
   refused-reply r e =
       ap₂ {C = CReply} (λ (x y : ℕ). record { refusal = x; number = y }) ea eb ∙ ap (λ (x : Reply). replyC (replyOf x)) (sym e)
 
-  pub refused-answer : (r : Answer) → r ≡ Answer.Refused why
-      → _≡_ {A = CAnswer} (record { kind = a; number = b; ordinal = 0; value = pos 0; words = 0 }) (answerC (answerOf r))
-  refused-answer r e =
-      ap₂ {C = CAnswer} (λ (x y : ℕ). record { kind = x; number = y; ordinal = 0; value = pos 0; words = 0 }) ea eb
-      ∙ ap (λ (x : Answer). answerC (answerOf x)) (sym e)
+  pub refused-answer : (r : Answer) (n : ℕ) → r ≡ Answer.Refused why
+      → _≡_ {A = CAnswer} (record { kind = a; number = b; ordinal = 0; value = pos 0; words = 0; probes = 0 }) (answerC n (answerOf r))
+  refused-answer r n e =
+      ap₂ {C = CAnswer} (λ (x y : ℕ). record { kind = x; number = y; ordinal = 0; value = pos 0; words = 0; probes = 0 }) ea eb
+      ∙ ap (λ (x : Answer). answerC n (answerOf x)) (sym e)
 
   pub refused-column : (r : Opening) → r ≡ Opening.Refused why
       → _≡_ {A = CColumn}

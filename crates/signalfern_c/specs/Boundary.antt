@@ -3,7 +3,7 @@
 use Rattle.format.specs.Kit.{ℕ, List, Option, none, some, leb, pos}
 use Rattle.format.specs.Limits.{maxId}
 use Rattle.format.specs.Refusals.{Outcome, done, refused, need, HEADER, ID}
-use Rattle.format.specs.LookUp.{Look, found, absent, lookUpIn}
+use Rattle.format.specs.LookUp.{Look, found, absent, stepProbes, lookUpIn}
 use Rattle.format.specs.Editions.{Edition, numberOf, editions, editionIn}
 use Rattle.format.specs.Opening as Op
 use Rattle.signalfern_c.specs.declared.CReply.{CReply}
@@ -15,11 +15,11 @@ abbrev pub replyC : Outcome ℕ → CReply
 replyC (done n) = record { refusal = 0; number = n }
 replyC (refused why w) = record { refusal = why; number = w }
 
--- kind 0 found, 1 absent, otherwise the refusal's number
-abbrev pub answerC : Outcome Look → CAnswer
-answerC (done (found o v w)) = record { kind = 0; number = 0; ordinal = o; value = v; words = w }
-answerC (done (absent w)) = record { kind = 1; number = 0; ordinal = 0; value = pos 0; words = w }
-answerC (refused why w) = record { kind = why; number = w; ordinal = 0; value = pos 0; words = 0 }
+-- an answer with n probes: kind 0 found, 1 absent, otherwise the refusal's number
+abbrev pub answerC : ℕ → Outcome Look → CAnswer
+answerC n (done (found o v w)) = record { kind = 0; number = 0; ordinal = o; value = v; words = w; probes = n }
+answerC n (done (absent w)) = record { kind = 1; number = 0; ordinal = 0; value = pos 0; words = w; probes = n }
+answerC n (refused why w) = record { kind = why; number = w; ordinal = 0; value = pos 0; words = 0; probes = 0 }
 
 -- refusal 0: an opened column
 abbrev pub columnC : Outcome Op.Opened → CColumn
@@ -81,3 +81,11 @@ knownC bytes c id none = unknownC id
 
 abbrev pub lookUpInC : List ℕ → CColumn → ℕ → Outcome Look
 lookUpInC bytes c id = knownC bytes c id (editionIn editions (c .edition))
+
+-- the probes of that
+abbrev pub knownProbesC : List ℕ → CColumn → ℕ → Option Edition → ℕ
+knownProbesC bytes c id (some ed) = stepProbes bytes (openedAs ed c) id
+knownProbesC bytes c id none = 0
+
+abbrev pub probesInC : List ℕ → CColumn → ℕ → ℕ
+probesInC bytes c id = knownProbesC bytes c id (editionIn editions (c .edition))

@@ -1,6 +1,7 @@
 // The library's calls for C: thin over crate signalfern, with structs returned by value, so that a refusal needs no lent slot.
 // include/signalfern.h declares them; a slice passes as a pointer and a length.
 ghost use mathlib.Core.Path.{_≡_};
+ghost use Prim.Native.Nat.{ℕ};
 ghost use lib.ListN.{length};
 ghost use Rattle.format.specs.Writer.{write, writeReply, writeOut};
 ghost use Rattle.format.specs.Check.{check, reading, readReply, idsAfter, valuesAfter};
@@ -8,11 +9,11 @@ ghost use Rattle.format.specs.Refusals.{done};
 ghost use Rattle.format.specs.Editions.{editions};
 ghost use Rattle.format.specs.Opening as Op;
 ghost use Rattle.format.specs.Opening.{openColumn};
-ghost use Rattle.format.specs.LookUp.{lookUp};
+ghost use Rattle.format.specs.LookUp.{lookUp, lookUpProbes};
 ghost use Rattle.format.specs.Walk.{FewWords};
-ghost use Rattle.format.specs.Replies.{replyOf, answerOf};
+ghost use Rattle.format.specs.Replies.{replyOf, answerOf, Probed};
 ghost use Rattle.column.specs.Opened.{openedOf};
-ghost use Rattle.signalfern_c.specs.Boundary.{replyC, answerC, columnC, unknownC, lookUpInC};
+ghost use Rattle.signalfern_c.specs.Boundary.{replyC, answerC, columnC, unknownC, lookUpInC, probesInC};
 use column::Column;
 use column::Head;
 use column::Known;
@@ -37,6 +38,7 @@ pub struct CAnswer {
     pub ordinal: u64,
     pub value: i64,
     pub words: u64,
+    pub probes: u64,
 }
 
 // signalfern_column
@@ -72,26 +74,29 @@ fn reply_c(reply: Reply) -> CReply
 }
 
 fn answer_c(answer: Answer) -> CAnswer
-    ensures { λ r. ⌜ r ≡ answerC (answerOf answer) ⌝ }
+    ensures { λ r. ⌜ ((n : ℕ) → Probed n answer → r ≡ answerC n (answerOf answer)) ⌝ }
 {
     match answer {
         Answer::Found {
             ordinal,
             value,
             words,
+            probes,
         } => CAnswer {
             kind: 0,
             number: 0,
             ordinal,
             value,
             words,
+            probes,
         },
-        Answer::Absent { words } => CAnswer {
+        Answer::Absent { words, probes } => CAnswer {
             kind: 1,
             number: 0,
             ordinal: 0,
             value: 0,
             words,
+            probes,
         },
         Answer::Refused(why) => CAnswer {
             kind: why.number(),
@@ -99,6 +104,7 @@ fn answer_c(answer: Answer) -> CAnswer
             ordinal: 0,
             value: 0,
             words: 0,
+            probes: 0,
         },
     }
 }
@@ -183,7 +189,7 @@ pub extern "C" fn signalfern_read(bytes: &[u8], ids: &mut [u32], values: &mut [i
 
 #[no_mangle]
 pub extern "C" fn signalfern_look_up(bytes: &[u8], id: u32) -> CAnswer
-    ensures answers { λ r. ⌜ r ≡ answerC (lookUp editions (now (bytes .entry)) id) ⌝ }
+    ensures answers { λ r. ⌜ r ≡ answerC (lookUpProbes editions (now (bytes .entry)) id) (lookUp editions (now (bytes .entry)) id) ⌝ }
     ensures words { λ _. ⌜ ((c : Op.Opened) → openColumn editions (now (bytes .entry)) ≡ done c → FewWords (c .head .power) (lookUp editions (now (bytes .entry)) id)) ⌝ }
 {
     let answer = signalfern::look_up(bytes, id);
@@ -200,7 +206,7 @@ pub extern "C" fn signalfern_open(bytes: &[u8]) -> CColumn
 
 // Where a column's edition number is none.
 fn no_edition(id: u32) -> Answer
-    ensures { λ r. ⌜ answerOf r ≡ unknownC id ⌝ }
+    ensures { λ r. ⌜ (answerOf r ≡ unknownC id) × (Probed 0 r) ⌝ }
 {
     if column::id_ok(id) {
         return Answer::Refused(Refusal::Header);
@@ -210,7 +216,7 @@ fn no_edition(id: u32) -> Answer
 
 #[no_mangle]
 pub extern "C" fn signalfern_look_up_in(column: CColumn, bytes: &[u8], id: u32) -> CAnswer
-    ensures answers { λ r. ⌜ r ≡ answerC (lookUpInC (now (bytes .entry)) column id) ⌝ }
+    ensures answers { λ r. ⌜ r ≡ answerC (probesInC (now (bytes .entry)) column id) (lookUpInC (now (bytes .entry)) column id) ⌝ }
     ensures words { λ _. ⌜ FewWords (column .power) (lookUpInC (now (bytes .entry)) column id) ⌝ }
 {
     let Known::Is(edition) = column::edition_in(column.edition) else {

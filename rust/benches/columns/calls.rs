@@ -100,7 +100,7 @@ fn value(answer: Result<signalfern::Answer, signalfern::Refusal>) -> u64 {
 fn reference_value(answer: Result<reference::Answer, reference::Refusal>) -> u64 {
     match answer {
         Ok(reference::Answer::Found { value, .. }) => value as u64,
-        Ok(reference::Answer::Absent { words }) => words,
+        Ok(reference::Answer::Absent { words, .. }) => words,
         Err(refusal) => refusal.number,
     }
 }

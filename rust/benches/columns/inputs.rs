@@ -14,21 +14,20 @@ pub enum Shape {
     Full,
     /// All of these in turns, with blocks between that are missing.
     Mixed,
+    /// Just so many ids a block.
+    Counted(u32),
 }
 
 impl Shape {
-    pub const EACH: [Self; 4] = [Self::Sparse, Self::Dense, Self::Full, Self::Mixed];
+    /// The kinds of block, and all together, by name.
+    pub const EACH: [(&'static str, Self); 4] = [
+        ("sparse", Self::Sparse),
+        ("dense", Self::Dense),
+        ("full", Self::Full),
+        ("mixed", Self::Mixed),
+    ];
 
-    pub fn name(self) -> &'static str {
-        match self {
-            Self::Sparse => "sparse",
-            Self::Dense => "dense",
-            Self::Full => "full",
-            Self::Mixed => "mixed",
-        }
-    }
-
-    /// Of 65536 places in this block, how many are listed.
+    /// How many places of this block are listed.
     fn listed(self, block: u32) -> u32 {
         match (self, block % 8) {
             (Self::Sparse, _) => 1000,
@@ -38,6 +37,7 @@ impl Shape {
             (Self::Mixed, 1 | 5) => 32_768,
             (Self::Mixed, 2 | 6) => 65_536,
             (Self::Mixed, _) => 0,
+            (Self::Counted(count), _) => count,
         }
     }
 }
@@ -75,8 +75,7 @@ impl Input {
             if ids.len() >= pairs {
                 break;
             }
-            let listed = u64::from(shape.listed(block));
-            let places = (0..65_536).filter(|_| (random.next() & 0xFFFF) < listed);
+            let places = places(&mut random, shape.listed(block));
             ids.extend(places.map(|place| (block << 16) | place));
         }
         let values = values.list(&mut random, ids.len());
@@ -99,9 +98,10 @@ impl Input {
     /// Ids between the listed ones.
     pub fn misses(&self, count: usize, order: Order) -> Vec<u32> {
         let mut random = Random(9);
-        // Up to the last block's end, and for a full column one block more.
+        // Up to the last block's end, and for full blocks one block more.
+        let full = matches!(self.shape, Shape::Full | Shape::Counted(65_536));
         let most = (self.ids.last().map_or(0, |last| last >> 16) as usize + 1) << 16;
-        let most = most + usize::from(matches!(self.shape, Shape::Full)) * 65_536;
+        let most = most + usize::from(full) * 65_536;
         let picks = std::iter::repeat_with(|| ((random.next() >> 8) as usize % most) as u32);
         let absent = picks.filter(|id| self.ids.binary_search(id).is_err());
         Self::ordered(absent.take(count).collect(), order)
@@ -114,6 +114,15 @@ impl Input {
         }
         ids
     }
+}
+
+/// So many places of a block, each choice as likely as any other.
+fn places(random: &mut Random, mut wanted: u32) -> impl Iterator<Item = u32> + '_ {
+    (0..65_536).filter(move |place| {
+        let taken = random.next() % u64::from(65_536 - place) < u64::from(wanted);
+        wanted -= u32::from(taken);
+        taken
+    })
 }
 
 /// What the values of a column are.

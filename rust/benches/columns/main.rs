@@ -14,7 +14,7 @@ use std::process::ExitCode;
 
 use inputs::{Input, Order, Shape, Values, LOOK_UPS};
 use measure::{Table, Times};
-use options::{Effort, Options, Over};
+use options::{Effort, Options, Rows};
 
 fn main() -> ExitCode {
     let result = Options::read(std::env::args().skip(1)).and_then(|options| run(&options));
@@ -34,11 +34,14 @@ fn run(options: &Options) -> Result<(), String> {
          ids than the one before; rank power 9.\n",
         effort.runs
     );
-    let table = match (&options.plot, &options.over) {
-        (Some(file), _) => return growth(effort).save(file),
-        (None, Over::Shapes) => shapes(effort),
-        (None, Over::Widths) => widths(effort),
-        (None, Over::Divisors) => divisors(effort),
+    if let Some(file) = &options.plot {
+        return growth(effort).save(file);
+    }
+    let table = match options.rows {
+        Rows::Shapes => shapes(effort),
+        Rows::Widths => widths(effort),
+        Rows::Divisors => divisors(effort),
+        Rows::Counts => counts(effort),
     };
     table.print(options.before.as_ref());
     let mut times = Times::default();
@@ -53,15 +56,15 @@ fn run(options: &Options) -> Result<(), String> {
 /// Every call on every kind of block, numbers of 12 bits.
 fn shapes(effort: &Effort) -> Table {
     let mut table = Table::new("column");
-    for shape in Shape::EACH {
+    for (name, shape) in Shape::EACH {
         let input = Input::new(shape, effort.pairs, Values::Any(12));
-        whole_columns(&mut table, shape.name(), &input, effort.runs);
+        whole_columns(&mut table, name, &input, effort.runs);
         for order in [Order::Random, Order::Ascending] {
             let hits = input.hits(effort.look_ups, order);
             let misses = input.misses(effort.look_ups, order);
             for (kind, ids) in [("hits", hits), ("misses", misses)] {
                 let kind = format!("{} {kind}", order.name());
-                look_ups(&mut table, shape.name(), &kind, &input, &ids, effort.runs);
+                look_ups(&mut table, name, &kind, &input, &ids, effort.runs);
             }
         }
     }
@@ -87,6 +90,26 @@ fn divisors(effort: &Effort) -> Table {
     for (name, values) in Values::BY_DIVISOR {
         let input = Input::new(Shape::Mixed, effort.pairs, values);
         whole_columns(&mut table, name, &input, effort.runs);
+    }
+    table
+}
+
+/// Look-ups of random ids in a few blocks of so many ids each, few enough for the caches: sparse up
+/// to 4000 ids, then dense, then full.
+fn counts(effort: &Effort) -> Table {
+    let mut table = Table::new("ids a block");
+    for count in [1, 3, 20, 200, 1000, 4000, 32_768, 65_536] {
+        let blocks = if count < 4096 { 16 } else { 4 };
+        let input = Input::new(
+            Shape::Counted(count),
+            blocks * count as usize,
+            Values::Any(12),
+        );
+        let name = count.to_string();
+        let hits = input.hits(effort.look_ups, Order::Random);
+        let misses = input.misses(effort.look_ups, Order::Random);
+        look_ups(&mut table, &name, "hits", &input, &hits, effort.runs);
+        look_ups(&mut table, &name, "misses", &input, &misses, effort.runs);
     }
     table
 }

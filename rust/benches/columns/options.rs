@@ -31,17 +31,22 @@ const SMALL: Effort = Effort {
     growth: &[32_000, 65_000],
 };
 
-/// What the lines of the table differ in.
-pub enum Over {
+/// What the table goes over.
+pub enum Rows {
+    /// Every call on each kind of block.
     Shapes,
+    /// Every call at each width of stored numbers.
     Widths,
+    /// The calls on whole columns with large and small divisors.
     Divisors,
+    /// Look-ups in blocks of few ids to many.
+    Counts,
 }
 
 /// What stood on the command line.
 pub struct Options {
     pub effort: Effort,
-    pub over: Over,
+    pub rows: Rows,
     /// Only the measurements of growth, drawn into this file.
     pub plot: Option<PathBuf>,
     /// Where the proved calls' times go.
@@ -55,7 +60,7 @@ impl Options {
     pub fn read(words: impl Iterator<Item = String>) -> Result<Self, String> {
         let mut options = Self {
             effort: SMALL,
-            over: Over::Shapes,
+            rows: Rows::Shapes,
             plot: None,
             save: None,
             before: None,
@@ -66,8 +71,9 @@ impl Options {
             match word.as_str() {
                 // `cargo bench` says so; `cargo test` does not.
                 "--bench" => options.effort = FULL,
-                "--widths" => options.over = Over::Widths,
-                "--divisors" => options.over = Over::Divisors,
+                "--widths" => options.rows = Rows::Widths,
+                "--divisors" => options.rows = Rows::Divisors,
+                "--counts" => options.rows = Rows::Counts,
                 "--plot" => options.plot = Some(value()?.into()),
                 "--save" => options.save = Some(value()?.into()),
                 "--beside" => options.before = Some(Times::read(value()?.as_ref())?),
@@ -78,9 +84,11 @@ impl Options {
     }
 }
 
-const USAGE: &str = "cargo bench --bench columns -- [--widths | --divisors | --plot FILE.svg] \
+const USAGE: &str =
+    "cargo bench --bench columns -- [--widths | --divisors | --counts | --plot FILE.svg] \
 [--save FILE] [--beside FILE]
   --widths       the calls at each width of stored numbers in place of each kind of block
   --divisors     the calls on values with large and small divisors
+  --counts       look-ups alone, in blocks of few ids to many
   --plot FILE    how look-up, check and reading grow with the pairs and with the bytes, drawn
   --save FILE    keep the times; --beside FILE sets such times, of another revision, beside these";

@@ -8,10 +8,12 @@
 mod header;
 mod ids;
 mod look_up;
+mod sparse;
 mod values;
 
 pub use header::{open, Column};
 pub use look_up::{look_up, look_up_in};
+pub use sparse::{halve, scan};
 
 /// The greatest id.
 pub const MAX_ID: u32 = 2_147_352_575;
@@ -84,11 +86,15 @@ pub enum Answer {
         value: i64,
         /// Bitmap words counted.
         words: u64,
+        /// Entries of a sparse block probed.
+        probes: u64,
     },
     /// The id is not listed.
     Absent {
         /// Bitmap words counted.
         words: u64,
+        /// Entries of a sparse block probed.
+        probes: u64,
     },
 }
 

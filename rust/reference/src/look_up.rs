@@ -1,6 +1,7 @@
 //! "The look-up, step by step".
 
 use crate::ids::{data_bytes, rank_bytes, short, Kind};
+use crate::sparse::halve;
 use crate::values::{fetch, value_of};
 use crate::{open, Answer, Column, Refusal, MAX_ID};
 
@@ -31,9 +32,6 @@ fn int(bytes: &[u8]) -> u64 {
     u64::from(u32::from_le_bytes([bytes[0], bytes[1], bytes[2], bytes[3]]))
 }
 
-/// A place within its block, or none; with the words counted.
-type Inner = (Option<usize>, u64);
-
 fn steps(column: &Column, bytes: &[u8], id: u32) -> Result<Answer, Refusal> {
     let (section, values) = column.sections(bytes);
     let (b, r) = ((id >> 16) as u16, id as u16);
@@ -57,7 +55,10 @@ fn steps(column: &Column, bytes: &[u8], id: u32) -> Result<Answer, Refusal> {
         return Err(Refusal::BROKEN);
     }
     if k != b {
-        return Ok(Answer::Absent { words: 0 });
+        return Ok(Answer::Absent {
+            words: 0,
+            probes: 0,
+        });
     }
     // 4: the block's data and its ordinals.
     let data = blocks[start + 4..]
@@ -67,13 +68,19 @@ fn steps(column: &Column, bytes: &[u8], id: u32) -> Result<Answer, Refusal> {
         return Err(Refusal::BROKEN);
     }
     // 5 and 6: the place.
-    let (inner, words) = match Kind::of(c) {
-        Kind::Sparse => (sparse_place(data, r), 0),
-        Kind::Dense => dense_place(data, power, r),
-        Kind::All => (Some(usize::from(r)), 0),
+    let (inner, words, probes) = match Kind::of(c) {
+        Kind::Sparse => {
+            let (inner, probes) = halve(data, r);
+            (inner, 0, probes)
+        }
+        Kind::Dense => {
+            let (inner, words) = dense_place(data, power, r);
+            (inner, words, 0)
+        }
+        Kind::All => (Some(usize::from(r)), 0, 0),
     };
     let Some(inner) = inner else {
-        return Ok(Answer::Absent { words });
+        return Ok(Answer::Absent { words, probes });
     };
     if inner >= c {
         return Err(Refusal::BROKEN);
@@ -86,17 +93,12 @@ fn steps(column: &Column, bytes: &[u8], id: u32) -> Result<Answer, Refusal> {
         ordinal,
         value,
         words,
+        probes,
     })
 }
 
-/// The index of `r`, if it is the first entry at or above `r`.
-fn sparse_place(data: &[u8], r: u16) -> Option<usize> {
-    let mut entries = data.chunks_exact(2).map(short);
-    let index = entries.clone().position(|entry| entry >= r)?;
-    (entries.nth(index) == Some(r)).then_some(index)
-}
-
-fn dense_place(data: &[u8], power: u32, r: u16) -> Inner {
+/// The index of `r`, if its bit is set, and the words counted.
+fn dense_place(data: &[u8], power: u32, r: u16) -> (Option<usize>, u64) {
     let (ranks, bitmap) = data.split_at(rank_bytes(power));
     let word_at = |i: usize| {
         let bytes = &bitmap[8 * i..8 * i + 8];

@@ -196,6 +196,22 @@ fn packs_small_lists_as_the_plain_writer_does() {
     }
 }
 
+/// Document 02, [8], by the list of places alone: the middle one is probed, and the half that `r`
+/// can be in is left.
+fn plain_probes(places: &[u32], r: u32) -> u64 {
+    let middle = places.len() / 2;
+    let Some(&probe) = places.get(middle) else {
+        return 0;
+    };
+    if probe == r {
+        1
+    } else if probe < r {
+        1 + plain_probes(&places[middle + 1..], r)
+    } else {
+        1 + plain_probes(&places[..middle], r)
+    }
+}
+
 #[test]
 fn looks_up_what_the_list_holds() {
     let mut random = Random(3);
@@ -215,6 +231,10 @@ fn looks_up_what_the_list_holds() {
             let block = listed.partition_point(|x| x >> 16 < id >> 16)
                 ..listed.partition_point(|x| x >> 16 <= id >> 16);
             let dense = (4096..65536).contains(&block.len());
+            let probes = match block.len() {
+                0..=4095 => plain_probes(&listed[block], id),
+                _ => 0,
+            };
             let (r, stride) = (
                 u64::from(id % 65536),
                 if power == 0 { 10 } else { power - 6 },
@@ -224,13 +244,43 @@ fn looks_up_what_the_list_holds() {
                     ordinal: ordinal as u64,
                     value: pairs[&id],
                     words: u64::from(dense) * ((r / 64) % (1 << stride) + 1),
+                    probes,
                 },
                 Err(_) => Answer::Absent {
                     words: u64::from(dense),
+                    probes,
                 },
             };
             assert_eq!(look_up(&column, id), Ok(answer), "round {round} id {id}");
             assert_eq!(look_up_in(&opened, &column, id), Ok(answer));
+        }
+    }
+}
+
+#[test]
+fn halving_finds_what_the_scan_finds_where_entries_ascend() {
+    let mut random = Random(4);
+    for count in (0..70).chain([255, 1000, 2047, 2048, 4094, 4095]) {
+        let mut places: Vec<u32> = (0..count).map(|i| 16 * i + 1).collect();
+        for place in &mut places {
+            *place += random.below(15) as u32;
+        }
+        let entries: Vec<u8> = (places.iter())
+            .flat_map(|&place| (place as u16).to_le_bytes())
+            .collect();
+        // As many as the count has bits.
+        let most = u64::from(u32::BITS - count.leading_zeros());
+        let below = (random.next() as u16, random.next() as u16);
+        let asked = (places.iter()).flat_map(|&x| [x as u16 - 1, x as u16, x as u16 + 1]);
+        for r in asked.chain([0, below.0, below.1, u16::MAX]) {
+            let (index, probes) = halve(&entries, r);
+            assert_eq!(index, scan(&entries, r), "{r} of {count}");
+            assert_eq!(
+                probes,
+                plain_probes(&places, u32::from(r)),
+                "{r} of {count}"
+            );
+            assert!(probes <= most, "{r} of {count}: {probes}");
         }
     }
 }

@@ -99,16 +99,20 @@ pub fn walk(bytes: &[u8]) -> Result<Checked<'_>, Refusal> {
     result
 }
 
-/// The library's answer in the reference's type: only the library can make its own.
+/// The library's answer in the reference's type: only the library can make its own. Whatever the
+/// bytes, 12 probes are the most.
+#[track_caller]
 pub fn told(answer: signalfern::Answer) -> Answer {
-    let words = answer.words();
+    let (words, probes) = (answer.words(), answer.probes());
+    assert!(probes <= 12, "{answer:?}");
     match answer {
         signalfern::Answer::Found { ordinal, value, .. } => Answer::Found {
             ordinal,
             value,
             words,
+            probes,
         },
-        signalfern::Answer::Absent { .. } => Answer::Absent { words },
+        signalfern::Answer::Absent { .. } => Answer::Absent { words, probes },
     }
 }
 

@@ -1,41 +1,60 @@
 -- `in_block::inner_of` meets its contract. Assumes nothing.
-use Rattle.format.specs.Kit.{_≡_, sym, ap, _∙_, ℕ, _+_, _*_, drop, arith, needs}
-use Rattle.format.specs.Ids.{all, kindOf, rankBytes, dataBytes}
-use Rattle.format.specs.IdsRead.{shorts}
-use Rattle.format.specs.LookUp.{inside, scan, scanned, inSparse, denseAt, placeAt}
+use Rattle.format.specs.Kit.{_≡_, sym, ap, _∙_, ℕ, arith, needs}
+use Rattle.format.specs.Ids.{sparse, dense, all, kindOf}
+use Rattle.format.specs.LookUp.{inside}
 use Rattle.blocks.specs.Kinds.{kindIs}
-use Rattle.in_block.proofs.ByKind.{of-sparse, of-dense, of-all, all-count}
+use Rattle.in_block.proofs.ByKind.{of-sparse, of-dense, of-all, sparse-count, all-count}
 use Rattle.in_block.proofs.inner_of.Statement.{statement}
 use Rattle.in_block.proofs.inner_of.Tie as tie
 
-sparse-is : (c : tie.After-enum-told)
-    → let a = c .before .before .before .args in
-    let b = a .block in
-    (dataBytes (a .p) (b .count) ≡ 2 * b .count)
-    × (placeAt scanned (a .p) (a .s .now) (b .start) (b .count) (a .r) ≡ inSparse (scan (a .r) 0 (shorts (b .count) (drop (b .start) (a .s .now)))))
-sparse-is c = of-sparse _ _ _ _ _ (sym (c .before .before .before .pre .2) ∙ ap kindIs (c .enum-told .given .1))
+is-sparse : (c : tie.After-enum-told) → kindOf (c .before .before .before .args .block .count) ≡ sparse
+is-sparse c = sym (c .before .before .before .pre .2) ∙ ap kindIs (c .enum-told .given .1)
 
-dense-is : (c : tie.After-enum-told2)
-    → let a = c .before .before .before .args in
-    let b = a .block in
-    (dataBytes (a .p) (b .count) ≡ rankBytes (a .p) + 8192)
-    × (placeAt scanned (a .p) (a .s .now) (b .start) (b .count) (a .r) ≡ denseAt (a .p) (a .s .now) (b .start) (b .count) (a .r))
-dense-is c = of-dense _ _ _ _ _ (sym (c .before .before .before .pre .2) ∙ ap kindIs (c .enum-told2 .given .1))
+is-dense : (c : tie.After-enum-told2) → kindOf (c .before .before .before .args .block .count) ≡ dense
+is-dense c = sym (c .before .before .before .pre .2) ∙ ap kindIs (c .enum-told2 .given .1)
+
+returns : tie.Need-returns
+returns c =
+    let a = c .before .before .before .before .before .args in
+    let f = of-sparse (a .p) (a .block .count) (a .s .now) (a .block .start) (a .r) (is-sparse (c .before .before)) in
+    let g = rw (c .before .long .ensures) at (c .sparse .ensures) in
+    (g .0 .0 ∙ sym (f .1), g .1, g .0 .1 ∙ sym (f .2))
+
+returns-2 : tie.Need-returns-2
+returns-2 c =
+    let a = c .before .before .before .before .args in
+    let f = of-dense (a .p) (a .block .count) (a .s .now) (a .block .start) (a .r) (is-dense (c .before)) in
+    let g = c .dense .ensures in
+    (g .0 ∙ sym (f .1), g .1, g .2 ∙ sym (f .2))
 
 returns-3 : tie.Need-returns-3
 returns-3 c =
-    let a = c .before .before .before .before in
-    let e : kindOf (a .args .block .count) ≡ all = sym (a .pre .2) ∙ ap kindIs (c .before .enum-told3 .given .1) in
-    (ap (λ (x : ℕ). inside x 0) (c .long2 .ensures) ∙ sym (of-all _ _ _ _ _ e), omega (arith, all-count (a .args .block .count) e))
+    let a = c .before .before .before in
+    let b = a .args .block in
+    let e : kindOf (b .count) ≡ all = sym (a .pre .2) ∙ ap kindIs (c .enum-told3 .given .1) in
+    let f = of-all (a .args .p) (b .count) (a .args .s .now) (b .start) (a .args .r) e in
+    (sym (f .0), omega (arith, all-count (b .count) e), sym (f .1))
+
+sparse-requires : tie.Need-sparse-requires
+sparse-requires c κs =
+    let a = c .before .before .before .before .args in
+    let e = is-sparse (c .before) in
+    (omega (arith, of-sparse (a .p) (a .block .count) (a .s .now) (a .block .start) (a .r) e .0), sparse-count (a .block .count) e, omega arith)
+
+dense-requires : tie.Need-dense-requires
+dense-requires c κs =
+    let a = c .before .before .before in
+    let b = a .args .block in
+    (a .pre .0, a .pre .1, omega (arith, of-dense (a .args .p) (b .count) (a .args .s .now) (b .start) (a .args .r) (is-dense c) .0))
 
 pub inner-of-spec : {M : Type 1} → statement M
 inner-of-spec =
     tie.close (tie.spec
     (λ c. search needs) (λ c κs. search needs)
-    (λ c κs. omega (arith, sparse-is (c .before) .0))
+    sparse-requires
     (λ c. search needs)
-    (λ c κs. let a = c .before .before .before in (a .pre .0, a .pre .1, omega (arith, dense-is c .0)))
-    (λ c. search needs) (λ c κs. search needs)
-    (λ c. let f = sparse-is (c .before .before) .1 in (cc, c .sparse .ensures .1))
-    (λ c. (c .dense .ensures .0 ∙ sym (dense-is (c .before) .1), c .dense .ensures .1))
+    dense-requires
+    (λ c. search needs) (λ c. search needs)
+    returns
+    returns-2
     returns-3)

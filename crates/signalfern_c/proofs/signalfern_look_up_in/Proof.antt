@@ -1,19 +1,29 @@
 -- `signalfern_c::signalfern_look_up_in` meets its contract. Assumes nothing.
-use Rattle.format.specs.Kit.{needs, sym, ap, _∙_, subst}
+use Rattle.format.specs.Kit.{needs, sym, ap, _∙_, subst, List, Option, ℕ}
+use Rattle.format.specs.Editions.{Edition}
 use Rattle.format.specs.Walk.{FewWords}
 use Rattle.column.specs.Opened.{knownOf}
-use Rattle.signalfern_c.specs.Boundary.{answerC, knownC}
+use Rattle.signalfern_c.specs.Boundary.{answerC, knownC, knownProbesC}
+use Rattle.signalfern_c.specs.declared.CAnswer.{CAnswer}
+use Rattle.signalfern_c.specs.declared.CColumn.{CColumn}
 use Rattle.signalfern_c.proofs.Shown.{few-unknown}
 use Rattle.signalfern_c.proofs.signalfern_look_up_in.Statement.{statement}
 use Rattle.signalfern_c.proofs.signalfern_look_up_in.Tie as tie
+
+-- what is shown, by the edition of the column
+abbrev shown : List ℕ → CColumn → ℕ → Option Edition → CAnswer
+shown bytes c id o = answerC (knownProbesC bytes c id o) (knownC bytes c id o)
 
 returns : tie.Need-returns
 returns c =
     let t = c .before .before in
     let i = t .before .before in
     let a = i .before .before .args in
-    let e = ap (knownC (a .bytes .now) (a .column) (a .id)) (sym (ap knownOf (t .enum-told .given .1)) ∙ i .edition-in .ensures) in
-    (c .answer-c .ensures ∙ ap answerC (c .before .no-edition .ensures ∙ e), subst (FewWords (a .column .power)) e (few-unknown (a .column .power) (a .id)))
+    let ed = sym (ap knownOf (t .enum-told .given .1)) ∙ i .edition-in .ensures in
+    let n = c .before .no-edition .ensures in (
+      c .answer-c .ensures 0 (n .1) ∙ ap (answerC 0) (n .0) ∙ ap (shown (a .bytes .now) (a .column) (a .id)) ed,
+      subst (FewWords (a .column .power)) (ap (knownC (a .bytes .now) (a .column) (a .id)) ed) (few-unknown (a .column .power) (a .id)),
+    )
 
 returns-2 : tie.Need-returns-2
 returns-2 c =
@@ -21,8 +31,10 @@ returns-2 c =
     let k = c .before .before .before in
     let i = k .before .before in
     let a = i .before .before .args in
-    let e = l .0 ∙ ap (knownC (a .bytes .now) (a .column) (a .id)) (sym (ap knownOf (k .edition .given .1)) ∙ i .edition-in .ensures) in
-    (c .answer-c2 .ensures ∙ ap answerC e, subst (FewWords (a .column .power)) e (l .1))
+    let ed = sym (ap knownOf (k .edition .given .1)) ∙ i .edition-in .ensures in (
+      c .answer-c2 .ensures _ (l .1 .1) ∙ ap (answerC _) (l .0) ∙ ap (shown (a .bytes .now) (a .column) (a .id)) ed,
+      subst (FewWords (a .column .power)) (l .0 ∙ ap (knownC (a .bytes .now) (a .column) (a .id)) ed) (l .1 .0),
+    )
 
 pub signalfern-look-up-in-spec : {M : Type 1} → statement M
 signalfern-look-up-in-spec =

@@ -144,8 +144,14 @@ fn write_answer(out: &mut dyn Write, id: u32, answer: Answer) -> io::Result<()> 
             ordinal,
             value,
             words,
+            probes,
             ..
-        } => writeln!(out, "{id} {value} ordinal {ordinal} words {words}"),
-        Answer::Absent { words, .. } => writeln!(out, "{id} absent words {words}"),
+        } => writeln!(
+            out,
+            "{id} {value} ordinal {ordinal} words {words} probes {probes}"
+        ),
+        Answer::Absent { words, probes, .. } => {
+            writeln!(out, "{id} absent words {words} probes {probes}")
+        }
     }
 }

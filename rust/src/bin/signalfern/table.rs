@@ -189,8 +189,9 @@ const LOOK_UP: Command = Command {
     words: "COLUMN [ID...] [--ids FILE] [--unchecked]",
     summary: "ask for single ids",
     text: &[
-        "Asks a column for single ids. One line for each: the id, then its value, its ordinal (how \
-         many ids lie below it) and the bitmap words that were counted; or `absent`.",
+        "Asks a column for single ids. One line for each: the id, then its value and its ordinal \
+         (how many ids lie below it), or `absent`; then the bitmap words that were counted and the \
+         entries of a sparse block that were probed.",
         "The column is checked first: a damaged one could give a wrong value.",
     ],
     options: &[
