@@ -28,8 +28,9 @@ static const struct refusal refusals[] = {
                "something follows it"},
     {"BUFFER", "the buffers are too short for the pairs that the header tells of"},
     {"DAMAGED", "the header is sound, but what follows is not the column of any list of pairs"},
-    {"ID", "the id looked up is above the greatest allowed, 2147352575"},
+    {"ID", "the id asked for is above the greatest allowed, 2147352575"},
     {"BROKEN", "the look-up met bytes that cannot be right: the column is damaged"},
+    {"BACK", "the target is below the last one answered: from a cursor, targets stand still or grow"},
 };
 
 static const struct refusal unknown = {"UNKNOWN", "no refusal has this number"};

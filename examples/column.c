@@ -1,5 +1,5 @@
-/* Writes a small column, checks it, reads it back and looks three ids up. Each reply is tested
- * before anything in it is used. */
+/* Writes a small column, checks it, reads it back, looks three ids up and walks over it. Each reply is
+ * tested before anything in it is used. */
 #include <inttypes.h>
 #include <stdio.h>
 #include <stdlib.h>
@@ -37,6 +37,21 @@ static void tell(uint32_t id, signalfern_answer answer)
     }
 }
 
+/* The pairs from a target on: each next target is the one after the id that was found. */
+static void walk(signalfern_column opened, const uint8_t *column, size_t len, uint32_t target)
+{
+    signalfern_candidate next = {0};
+    while (target <= SIGNALFERN_MAX_ID) {
+        next = signalfern_next_in(opened, next.cursor, column, len, target);
+        if (next.kind == SIGNALFERN_NONE)
+            break;
+        if (next.kind != SIGNALFERN_FOUND)
+            refuse("next", next.kind, next.number);
+        printf("next: id %" PRIu64 ", value %" PRId64 ", ordinal %" PRIu64 "\n", next.id, next.value, next.ordinal);
+        target = (uint32_t)next.id + 1;
+    }
+}
+
 int main(void)
 {
     const uint32_t ids[] = {0, 2, 7};
@@ -71,6 +86,7 @@ int main(void)
     printf("smallest value %" PRId64 "\n", signalfern_smallest(opened.smallest));
     tell(2, signalfern_look_up_in(opened, column, len, 2));
     tell(5, signalfern_look_up_in(opened, column, len, 5));
+    walk(opened, column, len, 1);
 
     free(read_values);
     free(read_ids);

@@ -2,14 +2,15 @@
  * Signalfern: score columns.
  *
  * A column is a byte string that holds n pairs: an id (0 to 2147352575, strictly ascending) and a
- * signed 64-bit value. It can be written, checked, read whole, and asked for one id. x86-64 Linux.
+ * signed 64-bit value. It can be written, checked, read whole, asked for one id, and walked over from
+ * id to id. x86-64 Linux.
  *
  *     cc program.c $(pkg-config --cflags --libs signalfern)     after `make install`
  *
- * Six calls are proved to do what is said here, on every input: signalfern_write, _check, _read,
- * _look_up, _open and _look_up_in. They alone are in libsignalfern_c.a, which the Rattle kit makes.
- * Four more stand at the end, for names, sentences and the version: plain C, tested and not proved
- * (c/names.c). The installed libsignalfern.a and libsignalfern.so have all ten.
+ * Eight calls are proved to do what is said here, on every input: signalfern_write, _check, _read,
+ * _look_up, _open, _look_up_in, _next and _next_in. They alone are in libsignalfern_c.a, which the
+ * Rattle kit makes. Four more stand at the end, for names, sentences and the version: plain C, tested
+ * and not proved (c/names.c). The installed libsignalfern.a and libsignalfern.so have all twelve.
  *
  * For every proved call:
  *
@@ -70,8 +71,9 @@ enum {
     SIGNALFERN_LENGTH = 11,  /* header, id section and value section are not the byte count */
     SIGNALFERN_BUFFER = 12,  /* the ids or the values buffer is shorter than n; with n */
     SIGNALFERN_DAMAGED = 13, /* the bytes are no column of any pair list */
-    SIGNALFERN_ID = 14,      /* the looked-up id is above SIGNALFERN_MAX_ID */
-    SIGNALFERN_BROKEN = 15   /* a step of the look-up fails: the bytes are damaged */
+    SIGNALFERN_ID = 14,      /* the looked-up id, or the target, is above SIGNALFERN_MAX_ID */
+    SIGNALFERN_BROKEN = 15,  /* a step of the look-up fails: the bytes are damaged */
+    SIGNALFERN_BACK = 16     /* the target is below the last one answered */
 };
 
 /* What signalfern_write, signalfern_check and signalfern_read answer. */
@@ -80,8 +82,9 @@ typedef struct {
     uint64_t number;  /* Done: see the call. Otherwise the number with the refusal. */
 } signalfern_reply;
 
-/* The kinds of a look-up's answer that are no refusal. Refusal 1 is never given by a look-up. */
-enum { SIGNALFERN_FOUND = 0, SIGNALFERN_ABSENT = 1 };
+/* The kinds of an answer that are no refusal: of a look-up the first two, of signalfern_next the
+ * first and the last. Refusal 1 is never given by these calls. */
+enum { SIGNALFERN_FOUND = 0, SIGNALFERN_ABSENT = 1, SIGNALFERN_NONE = 1 };
 
 /* What a look-up answers. Fields that a case does not name hold 0. */
 typedef struct {
@@ -94,8 +97,8 @@ typedef struct {
 } signalfern_answer;
 
 /*
- * A column opened once, for many look-ups. It holds numbers alone and no pointer: it may be copied,
- * and the bytes are lent again with each look-up. Where `refusal` is not 0, all fields after
+ * A column opened once, for many questions. It holds numbers alone and no pointer: it may be copied,
+ * and the bytes are lent again with each call. Where `refusal` is not 0, all fields after
  * `number` hold 0.
  */
 typedef struct {
@@ -113,6 +116,24 @@ typedef struct {
     uint64_t value_bytes; /* V, the bytes of the value section */
     uint64_t start;       /* the bytes of the header: where the id section starts */
 } signalfern_column;
+
+/*
+ * How far the targets of signalfern_next went. A new cursor is {0}. Any value is allowed, and a cursor
+ * is of no certain column.
+ */
+typedef struct {
+    uint32_t last; /* the last target answered */
+} signalfern_cursor;
+
+/* What signalfern_next answers. Fields that a case does not name hold 0, but for the cursor. */
+typedef struct {
+    uint64_t kind;            /* SIGNALFERN_FOUND, SIGNALFERN_NONE, or the refusal: 7 to 11, 14 to 16. */
+    uint64_t number;          /* Refused: the number with the refusal. */
+    uint64_t id;              /* Found: the first listed id at or above the target. */
+    uint64_t ordinal;         /* Found: its index in the list, from 0. */
+    int64_t value;            /* Found: its value. */
+    signalfern_cursor cursor; /* Found or none: the target is its last. Refused: the cursor as it was. */
+} signalfern_candidate;
 
 /*
  * Writes the column of the pairs (ids[i], values[i]) to the front of out.
@@ -160,7 +181,7 @@ signalfern_reply signalfern_read(const uint8_t *bytes, size_t len,
 signalfern_answer signalfern_look_up(const uint8_t *bytes, size_t len, uint32_t id);
 
 /*
- * Reads the header, for signalfern_look_up_in. Refused: 7 to 11.
+ * Reads the header, for signalfern_look_up_in and signalfern_next_in. Refused: 7 to 11.
  */
 signalfern_column signalfern_open(const uint8_t *bytes, size_t len);
 
@@ -177,6 +198,28 @@ signalfern_answer signalfern_look_up_in(signalfern_column column,
                                         const uint8_t *bytes, size_t len, uint32_t id);
 
 /*
+ * Finds the first listed id at or above the target, for a walk: the cursor that an answer brings is
+ * the one for the next call. Targets stand still or grow.
+ *
+ * Found, none or refused: 14; 16 where the target is below cursor.last; then 7 to 11; then 15. None is
+ * an answer too, and a refusal keeps the cursor. On bytes that signalfern_check accepts the answer is
+ * that of the pair list. On other bytes it is what the look-up's steps say for the target and each id
+ * above it in turn: the first that is not absent decides, and where all are absent there is none. In a
+ * sparse block such a step goes through the entries in order, to the first at or above the place, and
+ * does not halve them.
+ */
+signalfern_candidate signalfern_next(signalfern_cursor cursor,
+                                     const uint8_t *bytes, size_t len, uint32_t target);
+
+/*
+ * The same in a column opened before. With the column of signalfern_open(bytes, len), not refused, and
+ * the same bytes, the answer is that of signalfern_next(cursor, bytes, len, target). Any other column
+ * is allowed too, as for signalfern_look_up_in. Refused: 14, 16, 10, 11, 15.
+ */
+signalfern_candidate signalfern_next_in(signalfern_column column, signalfern_cursor cursor,
+                                        const uint8_t *bytes, size_t len, uint32_t target);
+
+/*
  * From here on plain C, not proved (c/names.c). No text is to be freed, and none is NULL.
  */
 
@@ -185,7 +228,7 @@ const char *signalfern_version(void);
 
 /*
  * The name of a refusal, as "DAMAGED"; "NONE" for 0 and "UNKNOWN" for a number that no refusal has.
- * The kind of a look-up's answer is a refusal from 2 on.
+ * The kind of an answer is a refusal from 2 on.
  */
 const char *signalfern_refusal_name(uint64_t refusal);
 

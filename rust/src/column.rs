@@ -1,4 +1,4 @@
-//! A column opened once, for many look-ups; and its header's numbers by themselves.
+//! A column opened once, for many questions; and its header's numbers by themselves.
 
 use std::fmt;
 
@@ -33,7 +33,7 @@ use crate::{ffi, Refusal};
 #[must_use]
 pub struct Column<'a> {
     bytes: &'a [u8],
-    numbers: ffi::Column,
+    pub(crate) numbers: ffi::Column,
 }
 
 impl<'a> Column<'a> {
@@ -247,7 +247,7 @@ impl Header {
         }
     }
 
-    const fn numbers(&self) -> ffi::Column {
+    pub(crate) const fn numbers(&self) -> ffi::Column {
         ffi::Column {
             refusal: 0,
             number: 0,

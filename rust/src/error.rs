@@ -102,7 +102,8 @@ impl From<Refusal> for io::Error {
             | Refusal::Range { .. }
             | Refusal::Room { .. }
             | Refusal::Buffer { .. }
-            | Refusal::Id => io::ErrorKind::InvalidInput,
+            | Refusal::Id
+            | Refusal::Back => io::ErrorKind::InvalidInput,
         };
         Self::new(kind, refusal)
     }

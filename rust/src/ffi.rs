@@ -40,6 +40,23 @@ pub(crate) struct Column {
     pub start: u64,
 }
 
+#[repr(C)]
+#[derive(Clone, Copy)]
+pub(crate) struct Cursor {
+    pub last: u32,
+}
+
+#[repr(C)]
+#[derive(Clone, Copy)]
+pub(crate) struct Candidate {
+    pub kind: u64,
+    pub number: u64,
+    pub id: u64,
+    pub ordinal: u64,
+    pub value: i64,
+    pub cursor: Cursor,
+}
+
 extern "C" {
     fn signalfern_write(
         ids: *const u32,
@@ -62,6 +79,14 @@ extern "C" {
     fn signalfern_look_up(bytes: *const u8, len: usize, id: u32) -> Answer;
     fn signalfern_open(bytes: *const u8, len: usize) -> Column;
     fn signalfern_look_up_in(column: Column, bytes: *const u8, len: usize, id: u32) -> Answer;
+    fn signalfern_next(cursor: Cursor, bytes: *const u8, len: usize, target: u32) -> Candidate;
+    fn signalfern_next_in(
+        column: Column,
+        cursor: Cursor,
+        bytes: *const u8,
+        len: usize,
+        target: u32,
+    ) -> Candidate;
 }
 
 pub(crate) fn write(ids: &[u32], values: &[i64], power: u32, out: &mut [u8]) -> Reply {
@@ -112,4 +137,14 @@ pub(crate) fn open(bytes: &[u8]) -> Column {
 pub(crate) fn look_up_in(column: Column, bytes: &[u8], id: u32) -> Answer {
     // SAFETY: a slice with its own length, only read; the call takes any column.
     unsafe { signalfern_look_up_in(column, bytes.as_ptr(), bytes.len(), id) }
+}
+
+pub(crate) fn next(cursor: Cursor, bytes: &[u8], target: u32) -> Candidate {
+    // SAFETY: a slice with its own length, only read; the call takes any cursor.
+    unsafe { signalfern_next(cursor, bytes.as_ptr(), bytes.len(), target) }
+}
+
+pub(crate) fn next_in(column: Column, cursor: Cursor, bytes: &[u8], target: u32) -> Candidate {
+    // SAFETY: a slice with its own length, only read; the call takes any column and any cursor.
+    unsafe { signalfern_next_in(column, cursor, bytes.as_ptr(), bytes.len(), target) }
 }

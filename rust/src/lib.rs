@@ -1,11 +1,12 @@
 //! Score columns: byte strings that hold pairs of an id and a signed 64-bit value, with the ids
 //! strictly ascending.
 //!
-//! There are five calls: [`write()`] a column, [`check`] one, [`read`] it whole, [`look_up`] one id,
-//! and [`Column::open`] for many look-ups of the same column. Each is a thin wrapper of a call that
-//! is written and proved in Rattle: its answer, its refusal and every lent byte afterwards are those
-//! that document 01 ("Full scope and exact rules") fixes, on every input. This wrapper, the C
-//! boundary below it and the compiler's back end are not proved; they are tested.
+//! There are six calls: [`write()`] a column, [`check`] one, [`read`] it whole, [`look_up`] one id,
+//! find the [`next()`] listed one, and [`Column::open`] for many such questions to the same column.
+//! Each is a thin wrapper of a call that is written and proved in Rattle: its answer, its refusal and
+//! every lent byte afterwards are those that document 01 ("Full scope and exact rules") and the
+//! requests of document 02 fix, on every input. This wrapper, the C boundary below it and the
+//! compiler's back end are not proved; they are tested.
 //!
 //! Most programs want [`Checked`]: a column that was checked once, as a sorted map from ids to
 //! values.
@@ -29,7 +30,7 @@
 //!
 //! # Refusals
 //!
-//! What cannot be done is refused with one of fourteen [`Refusal`]s, tested in a fixed order, and a
+//! What cannot be done is refused with one of fifteen [`Refusal`]s, tested in a fixed order, and a
 //! refusal changes no lent byte.
 //!
 //! ```
@@ -50,6 +51,7 @@ mod checked;
 mod column;
 mod error;
 mod ffi;
+mod next;
 mod pairs;
 mod refusal;
 
@@ -57,6 +59,7 @@ pub use calls::{check, look_up, read, read_to_vecs, write, write_pairs, write_to
 pub use checked::Checked;
 pub use column::{Column, Header};
 pub use error::Error;
+pub use next::{next, Candidate, Candidates, Cursor};
 pub use pairs::Pairs;
 pub use refusal::Refusal;
 

@@ -1,8 +1,8 @@
 //! The pairs of a checked column, one after the other.
 //!
-//! This walk is plain safe Rust, tested and not proved: the library has no cursor yet. It goes from
-//! block to block and takes the values from the value section in turn, since a look-up for each id
-//! would search its block from the start again. All that it reads was checked, so no index below is
+//! This walk is plain safe Rust, tested and not proved. It goes from block to block and takes the
+//! values from the value section in turn, where the proved one (`next`) searches a block from its
+//! start for each pair. All that it reads was checked, so no index below is
 //! out of place; a slip would stop the program, and could not read elsewhere.
 
 use std::cmp::Ordering;

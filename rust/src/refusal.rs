@@ -1,10 +1,10 @@
-//! The fourteen refusals.
+//! The fifteen refusals.
 
 use std::error::Error;
 use std::fmt;
 
-/// Why a call refused. The order is that of document 01's table. 5 is not used: it was OFFSET,
-/// which cannot happen (document 02, request 7).
+/// Why a call refused. The order is that of document 01's table, and document 02 adds the last. 5 is
+/// not used: it was OFFSET, which cannot happen (document 02, request 7).
 #[derive(Clone, Copy, Debug, PartialEq, Eq, Hash)]
 #[non_exhaustive]
 #[must_use]
@@ -52,14 +52,16 @@ pub enum Refusal {
     },
     /// The bytes are no column of any pair list.
     Damaged,
-    /// The looked-up id is above [`MAX_ID`](crate::MAX_ID).
+    /// The looked-up id, or the target, is above [`MAX_ID`](crate::MAX_ID).
     Id,
     /// A step of the look-up failed.
     Broken,
+    /// The target is below the last one answered.
+    Back,
 }
 
 impl Refusal {
-    /// The refusal with this number in document 01, and the number that comes with it (which does
+    /// The refusal with this number in documents 01 and 02, and the number that comes with it (which does
     /// not matter where none does). None for a number that no refusal has.
     ///
     /// ```
@@ -90,6 +92,7 @@ impl Refusal {
             13 => Self::Damaged,
             14 => Self::Id,
             15 => Self::Broken,
+            16 => Self::Back,
             _ => return None,
         })
     }
@@ -100,7 +103,7 @@ impl Refusal {
             .unwrap_or_else(|| panic!("libsignalfern_c gave refusal {number}, unknown here"))
     }
 
-    /// The number in document 01, 1 to 15 without 5.
+    /// The number in documents 01 and 02, 1 to 16 without 5.
     #[must_use]
     pub const fn number(self) -> u64 {
         match self {
@@ -119,6 +122,7 @@ impl Refusal {
             Self::Damaged => 13,
             Self::Id => 14,
             Self::Broken => 15,
+            Self::Back => 16,
         }
     }
 
@@ -137,7 +141,7 @@ impl Refusal {
         }
     }
 
-    /// The name in document 01.
+    /// The name in documents 01 and 02.
     #[must_use]
     pub const fn name(self) -> &'static str {
         match self {
@@ -155,6 +159,7 @@ impl Refusal {
             Self::Damaged => "DAMAGED",
             Self::Id => "ID",
             Self::Broken => "BROKEN",
+            Self::Back => "BACK",
         }
     }
 }
@@ -210,12 +215,16 @@ impl fmt::Display for Refusal {
             ),
             Self::Id => write!(
                 f,
-                "the id looked up is above the greatest allowed, {}",
+                "the id asked for is above the greatest allowed, {}",
                 crate::MAX_ID
             ),
             Self::Broken => write!(
                 f,
                 "the look-up met bytes that cannot be right: the column is damaged"
+            ),
+            Self::Back => write!(
+                f,
+                "the target is below the last one answered: from a cursor, targets stand still or grow"
             ),
         }
     }
@@ -229,7 +238,7 @@ mod tests {
 
     #[test]
     fn numbers_go_there_and_back() {
-        for number in (1..=4).chain(6..=15) {
+        for number in (1..=4).chain(6..=16) {
             let refusal = Refusal::given(number, 77);
             assert_eq!(Refusal::from_number(number, 77), Some(refusal));
             assert_eq!(refusal.number(), number);
@@ -242,14 +251,14 @@ mod tests {
 
     #[test]
     fn a_number_outside_the_table_is_no_refusal() {
-        for number in [0, 5, 16, 17, u64::MAX] {
+        for number in [0, 5, 17, u64::MAX] {
             assert_eq!(Refusal::from_number(number, 0), None);
         }
     }
 
     #[test]
-    #[should_panic = "gave refusal 16"]
+    #[should_panic = "gave refusal 17"]
     fn an_archive_that_refuses_otherwise_is_no_match() {
-        let _ = Refusal::given(16, 0);
+        let _ = Refusal::given(17, 0);
     }
 }

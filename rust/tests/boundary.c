@@ -18,6 +18,80 @@ static int same_answer(signalfern_answer a, uint64_t kind, uint64_t ordinal, int
     return a.kind == kind && a.number == 0 && a.ordinal == ordinal && a.value == value && a.words == words && a.probes == probes;
 }
 
+static int same_next(signalfern_candidate c, uint64_t kind, uint64_t id, uint64_t ordinal, int64_t value, uint32_t last)
+{
+    return c.kind == kind && c.number == 0 && c.id == id && c.ordinal == ordinal && c.value == value && c.cursor.last == last;
+}
+
+/* Ids 4 and the last that there can be, with -1 and 9: the cursor, the target and each field of the answer. */
+static const struct {
+    uint32_t last, target;
+    uint64_t kind, id, ordinal;
+    int64_t value;
+    uint32_t after;
+} next_cases[] = {
+    {0, 0, SIGNALFERN_FOUND, 4, 0, -1, 0},
+    {0, 4, SIGNALFERN_FOUND, 4, 0, -1, 4},
+    {4, 4, SIGNALFERN_FOUND, 4, 0, -1, 4},
+    {4, 5, SIGNALFERN_FOUND, SIGNALFERN_MAX_ID, 1, 9, 5},
+    {5, 4, SIGNALFERN_BACK, 0, 0, 0, 5},
+    {5, SIGNALFERN_MAX_ID, SIGNALFERN_FOUND, SIGNALFERN_MAX_ID, 1, 9, SIGNALFERN_MAX_ID},
+    {5, SIGNALFERN_MAX_ID + 1, SIGNALFERN_ID, 0, 0, 0, 5},
+    {UINT32_MAX, SIGNALFERN_MAX_ID, SIGNALFERN_BACK, 0, 0, 0, UINT32_MAX},
+    {UINT32_MAX, UINT32_MAX, SIGNALFERN_ID, 0, 0, 0, UINT32_MAX},
+};
+
+static int next_answers(signalfern_column column, const uint8_t *bytes, size_t len)
+{
+    for (size_t i = 0; i < sizeof next_cases / sizeof next_cases[0]; i++) {
+        signalfern_cursor cursor = {next_cases[i].last};
+        signalfern_candidate by_bytes = signalfern_next(cursor, bytes, len, next_cases[i].target);
+        signalfern_candidate by_column = signalfern_next_in(column, cursor, bytes, len, next_cases[i].target);
+        PROMISE(same_next(by_bytes, next_cases[i].kind, next_cases[i].id, next_cases[i].ordinal, next_cases[i].value,
+                          next_cases[i].after));
+        PROMISE(memcmp(&by_bytes, &by_column, offsetof(signalfern_candidate, cursor)) == 0);
+        PROMISE(by_column.cursor.last == next_cases[i].after);
+    }
+    return 0;
+}
+
+/* A refusal keeps the cursor, and BACK comes before the bytes, which may be none. */
+static int next_refusals(signalfern_column column, const uint8_t *bytes, size_t len)
+{
+    signalfern_cursor seven = {7};
+    PROMISE(same_next(signalfern_next(seven, NULL, 0, 6), SIGNALFERN_BACK, 0, 0, 0, 7));
+    PROMISE(same_next(signalfern_next(seven, NULL, 0, 7), SIGNALFERN_SHORT, 0, 0, 0, 7));
+    signalfern_candidate cut = signalfern_next(seven, bytes, 1, 8);
+    PROMISE(cut.kind == SIGNALFERN_SHORT && cut.number == 1 && cut.id == 0 && cut.cursor.last == 7);
+    /* Of any other column: the header rules, an edition that is none among them, then the length. */
+    PROMISE(same_next(signalfern_next_in(column, seven, bytes, len - 1, 8), SIGNALFERN_LENGTH, 0, 0, 0, 7));
+    column.edition = 2;
+    PROMISE(same_next(signalfern_next_in(column, seven, bytes, len - 1, 8), SIGNALFERN_HEADER, 0, 0, 0, 7));
+    PROMISE(same_next(signalfern_next_in(column, seven, bytes, len, 6), SIGNALFERN_BACK, 0, 0, 0, 7));
+    PROMISE(same_next(signalfern_next_in(column, seven, bytes, len, SIGNALFERN_MAX_ID + 1), SIGNALFERN_ID, 0, 0, 0, 7));
+    return 0;
+}
+
+static int next_candidates(void)
+{
+    PROMISE(sizeof(signalfern_cursor) == 4);
+    PROMISE(sizeof(signalfern_candidate) == 48 && offsetof(signalfern_candidate, cursor) == 40);
+    const uint32_t ids[] = {4, SIGNALFERN_MAX_ID};
+    const int64_t values[] = {-1, 9};
+    static uint8_t bytes[1 << 19];
+    signalfern_reply reply = signalfern_write(ids, 2, values, 2, 0, bytes, sizeof bytes);
+    PROMISE(reply.refusal == 0);
+    signalfern_column column = signalfern_open(bytes, reply.number);
+    if (next_answers(column, bytes, reply.number) || next_refusals(column, bytes, reply.number))
+        return 1;
+    /* None is an answer. */
+    reply = signalfern_write(ids, 1, values, 1, 0, bytes, sizeof bytes);
+    PROMISE(reply.refusal == 0);
+    signalfern_cursor seven = {7};
+    PROMISE(same_next(signalfern_next(seven, bytes, reply.number, 9), SIGNALFERN_NONE, 0, 0, 0, 9));
+    return 0;
+}
+
 int main(void)
 {
     PROMISE(sizeof(signalfern_reply) == 16);
@@ -118,5 +192,5 @@ int main(void)
     refused.refusal = SIGNALFERN_LENGTH;
     PROMISE(memcmp(&column, &refused, sizeof column) == 0);
     PROMISE(same_answer(signalfern_look_up_in(column, out, len, 4), SIGNALFERN_HEADER, 0, 0, 0, 0));
-    return 0;
+    return next_candidates();
 }

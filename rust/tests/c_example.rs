@@ -30,7 +30,7 @@ fn build_and_run(source: &Path, compiler: &[&str]) -> String {
 }
 
 #[test]
-fn the_example_writes_checks_reads_and_looks_up() {
+fn the_example_writes_checks_reads_looks_up_and_walks() {
     let printed = build_and_run(Path::new("examples/column.c"), &["-std=c99"]);
     // Of the places 0, 2 and 7, 2 is probed first.
     let expected = "\
@@ -42,6 +42,8 @@ id 7: value 135, ordinal 2, probes 2
 smallest value 135
 id 2: value 140, ordinal 1, probes 1
 id 5: not listed, probes 2
+next: id 2, value 140, ordinal 1
+next: id 7, value 135, ordinal 2
 ";
     assert_eq!(printed, expected);
 }

@@ -3,7 +3,7 @@
 mod common;
 
 use common::same;
-use signalfern::{Checked, Refusal};
+use signalfern::{Checked, Cursor, Refusal};
 
 const PAGE: &str = include_str!("../../docs/FORMAT.md");
 
@@ -84,6 +84,33 @@ fn where_a_header_broke() {
     }
 }
 
+/// What the page says of the next candidate: target, id and ordinal, or what else.
+#[test]
+fn the_next_candidate() {
+    let column = taken_apart().swap_remove(0);
+    let mut cursor = Cursor::new();
+    let mut next = |bytes: &[u8], target| {
+        let found = same::next_from(&mut cursor, bytes, target);
+        found.map(|found| found.map(|it| (it.id, it.ordinal, it.value)))
+    };
+    assert!(PAGE.contains("target 3 finds id 7 with ordinal 2 and value 135, target 8 finds none, and target 7 is BACK after it"));
+    assert_eq!(next(&column, 3), Ok(Some((7, 2, 135))));
+    assert_eq!(next(&column, 8), Ok(None));
+    assert_eq!(next(&column, 7), Err(Refusal::Back));
+    assert!(PAGE.contains(
+        "Among the entries 9, 2, 7 target 3 finds place 9, at index 0, and target 10 finds none."
+    ));
+    let mut entries = column.clone();
+    entries[14] = 9;
+    cursor = Cursor::new();
+    let mut next = |target| same::next_from(&mut cursor, &entries, target);
+    assert_eq!(
+        next(3).map(|found| found.map(|it| (it.id, it.ordinal))),
+        Ok(Some((9, 0)))
+    );
+    assert_eq!(next(10), Ok(None));
+}
+
 #[test]
 fn refusals_by_number_and_name() {
     let (_, section) = PAGE.split_once("\n## Refusals\n").unwrap();
@@ -91,6 +118,6 @@ fn refusals_by_number_and_name() {
         let mut cells = line.strip_prefix("| ")?.split(" | ");
         Some((cells.next()?.parse::<u64>().ok()?, cells.next()?))
     });
-    let known = (1..=15).filter_map(|number| Refusal::from_number(number, 0));
+    let known = (1..=16).filter_map(|number| Refusal::from_number(number, 0));
     assert!(rows.eq(known.map(|refusal| (refusal.number(), refusal.name()))));
 }

@@ -23,9 +23,9 @@ int main(void)
     PROMISE(strcmp(version, signalfern_version()) == 0);
     PROMISE(strcmp(signalfern_refusal_name(0), "NONE") == 0);
     PROMISE(strcmp(signalfern_refusal_name(5), "UNKNOWN") == 0 && strlen(signalfern_refusal_text(5)) > 0);
-    PROMISE(strcmp(signalfern_refusal_name(16), "UNKNOWN") == 0);
+    PROMISE(strcmp(signalfern_refusal_name(17), "UNKNOWN") == 0);
     PROMISE(strcmp(signalfern_refusal_name(UINT64_MAX), "UNKNOWN") == 0);
-    PROMISE(strlen(signalfern_refusal_text(0)) > 0 && strlen(signalfern_refusal_text(16)) > 0);
+    PROMISE(strlen(signalfern_refusal_text(0)) > 0 && strlen(signalfern_refusal_text(17)) > 0);
 
     const struct {
         uint64_t least;
@@ -52,9 +52,13 @@ int main(void)
     signalfern_column opened = signalfern_open(column, len);
     PROMISE(opened.refusal == 0 && opened.power == 9 && signalfern_smallest(opened.smallest) == -150);
     PROMISE(signalfern_look_up_in(opened, column, len, 3).kind == SIGNALFERN_ABSENT);
+    signalfern_cursor cursor = {0};
+    signalfern_candidate next = signalfern_next(cursor, column, len, 1);
+    PROMISE(next.kind == SIGNALFERN_FOUND && next.id == 2 && next.value == 140 && next.cursor.last == 1);
+    PROMISE(signalfern_next_in(opened, next.cursor, column, len, 8).kind == SIGNALFERN_NONE);
 
     printf("%s\n", signalfern_version());
-    for (uint64_t refusal = 1; refusal <= 15; refusal++) {
+    for (uint64_t refusal = 1; refusal <= 16; refusal++) {
         if (refusal == 5) /* not used */
             continue;
         printf("%" PRIu64 " %s %s\n", refusal, signalfern_refusal_name(refusal), signalfern_refusal_text(refusal));

@@ -177,7 +177,10 @@ fn the_demo() {
     let path = folder.path("new");
     let shown = run(&["demo", &path]);
     let words = ["$ signalfern check", "the same lines", "dense", "Where the"];
-    shown.expect(0, &words);
+    let shown = shown.expect(0, &words);
+    // Every id's score is 135 and five times the rest of seven times the id by twelve.
+    let next = "60000 135 ordinal 3\n70001 190 ordinal 4\n70004 175 ordinal 5\n";
+    assert!(shown.out.contains(next), "{}", shown.out);
     let left = ["again.txt", "scores.column", "scores.txt"];
     assert_eq!(Folder(path.clone().into()).names(), left);
 

@@ -6,7 +6,9 @@ use std::process::Command;
 
 use common::tool::{has_program, run, Folder};
 
-const COMMANDS: [&str; 7] = ["write", "check", "read", "look-up", "show", "demo", "help"];
+const COMMANDS: [&str; 8] = [
+    "write", "check", "read", "look-up", "next", "show", "demo", "help",
+];
 
 #[test]
 fn help_of_all_and_of_each() {
@@ -47,6 +49,10 @@ fn usage() {
     run(&["look-up", "a"]).expect(2, &["no id is named"]);
     run(&["look-up", "a", "-7"]).expect(2, &["no option `-7`"]);
     run(&["look-up", "a", "7x"]).expect(2, &["`7x` is no id"]);
+    run(&["next", "a"]).expect(2, &["no id is named"]);
+    run(&["next", "a", "7x"]).expect(2, &["`7x` is no id"]);
+    run(&["next", "a", "7", "8"]).expect(2, &["`8` is one word too many"]);
+    run(&["next", "a", "7", "--count", "0"]).expect(2, &["`0` is no count of ids"]);
     run(&["check", "no/such/file"]).expect(2, &["cannot read no/such/file"]);
     run(&["read", "a", "--limit", "-1"]).expect(2, &["`-1` is no count of pairs"]);
     run(&["read", "a", "--from", "2147352576"]).expect(2, &["`2147352576` is no id"]);

@@ -4,6 +4,7 @@
 use Rattle.format.proofs.Starred.{Starred, starred}
 use Rattle.format.proofs.Pins.{WriterCases, writer-cases, DivisorCases, divisor-cases, HeaderCases, header-cases}
 use Rattle.format.proofs.PinsPlaces.{PlaceCases, place-cases}
+use Rattle.format.proofs.PinsNext.{NextCases, next-cases, NextKindCases, next-kind-cases, NextDamageCases, next-damage-cases}
 use Rattle.format.proofs.PinsSteps.{DamageCases, damage-cases, StepCases, step-cases, WalkCases, walk-cases}
 use Rattle.format.proofs.PinsProbes.{HalvingCases, halving-cases, ProbeCases, probe-cases}
 
@@ -18,6 +19,9 @@ pub record AllCases : Type 0 where
   pub walk-table : WalkCases
   pub halving-table : HalvingCases
   pub probe-table : ProbeCases
+  pub next-table : NextCases
+  pub next-kind-table : NextKindCases
+  pub next-damage-table : NextDamageCases
 
 pub all-cases : AllCases
 all-cases =
@@ -32,4 +36,7 @@ all-cases =
       walk-table = walk-cases;
       halving-table = halving-cases;
       probe-table = probe-cases;
+      next-table = next-cases;
+      next-kind-table = next-kind-cases;
+      next-damage-table = next-damage-cases;
     }

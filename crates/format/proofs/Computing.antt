@@ -19,6 +19,7 @@ use Rattle.format.specs.Check.{check, allValues, pairsIn, isDone, isColu
 use Rattle.format.specs.LookUp.{scan, halveIn, halve, inSparse, onesFrom, strideLong, strideRank, denseAt, placeAt, probesAt, entryAt, answer, fromEntry}
 use Rattle.format.specs.LookUp.{steps, entered, probesFrom, stepProbes, lookUp, openedProbes, lookUpProbes, lookUpIn}
 use Rattle.format.specs.Walk.{indexOf, seenOr, walkFrom, walk, listedPlaces, probes}
+use Rattle.format.specs.Next.{decides, inTurn, nextSteps, next, nextIn, lastAfter, firstFrom, listNext, inSequence}
 
 unfoldable pub computing : Type 0
 unfolding bind onesIn andThen need given needNone bytesOf countFrom digits same fromDigits lowAt highAt groups number above readGroups readNumber
@@ -28,5 +29,5 @@ unfolding bind onesIn andThen need given needNone bytesOf countFrom digits same 
     codec headOf headNumbers column notAbove orderFault rangeFault writeAs writeReply openColumn headFrom headOk idPart valuePart valueIn valueOf
     check allValues pairsIn isDone isColumn accepted reading scan halveIn halve inSparse onesFrom strideLong strideRank denseAt placeAt probesAt
     entryAt answer fromEntry steps entered probesFrom stepProbes lookUp openedProbes lookUpProbes lookUpIn indexOf seenOr walkFrom walk
-    listedPlaces probes
+    listedPlaces probes decides inTurn nextSteps next nextIn lastAfter firstFrom listNext inSequence
 computing = Unit {0}

@@ -3,7 +3,7 @@
 use Rattle.format.specs.Kit.{_≡_, refl, sym, ap, _∙_, List, [], _∷_, _++_, append-assoc, some, ℕ, zero, suc, _+_, _^_, _<_, _≤_, arith, length}
 use Rattle.format.specs.Kit.{length-append, drop, drop-drop, drop-append-seam, le-leb, ne-eqb}
 use Rattle.format.specs.Limits.{maxId}
-use Rattle.format.specs.Refusals.{refused, andThen, need, given, SHORT, NUMBER, EDITION, HEADER, LENGTH, BUFFER, DAMAGED, ID, BROKEN}
+use Rattle.format.specs.Refusals.{refused, andThen, need, given, SHORT, NUMBER, EDITION, HEADER, LENGTH, BUFFER, DAMAGED, ID, BROKEN, BACK}
 use Rattle.format.specs.Bytes.{bytesOf}
 use Rattle.format.specs.HeaderNumbers.{number, Got, got, short, bad, readNumber, gotAt, numberAt, numbersAt}
 use Rattle.format.specs.Pairs.{Below}
@@ -11,11 +11,12 @@ use Rattle.format.specs.Editions.{Edition, editionIn}
 use Rattle.format.specs.Opening.{openColumn}
 use Rattle.format.specs.Check.{check, reading}
 use Rattle.format.specs.LookUp.{lookUp}
+use Rattle.format.specs.Next.{next}
 use Rattle.format.proofs.Digits.{below-drop}
 use Rattle.format.proofs.Header.{number-at}
 use Rattle.format.proofs.Minimal.{NumberAt, number-is}
 use Rattle.format.proofs.BadNumber.{Begun, Decides, BadBytes, bad-bytes, bad-read, short-bytes, short-read}
-use Rattle.format.proofs.Never.{Other, never, at-done, at-need, at-then, of-accepted, of-steps}
+use Rattle.format.proofs.Never.{Other, never, at-done, at-need, at-then, of-accepted, of-steps, of-next}
 use Rattle.format.proofs.Tests.{given-some, stopped, need-stopped, given-stopped}
 
 -- ---- what is said of the bytes
@@ -247,15 +248,17 @@ pub record PassedOn (known : List Edition) (bytes : List ℕ) (why w : ℕ) : Ty
   pub check-says : check known bytes ≡ refused why w
   pub reading-says : (idRoom valueRoom : ℕ) → reading known bytes idRoom valueRoom ≡ refused why w
   pub look-up-says : (id : ℕ) → id ≤ maxId → lookUp known bytes id ≡ refused why w
+  pub next-says : (last t : ℕ) → t ≤ maxId → last ≤ t → next known bytes last t ≡ refused why w
 
 module _ (known : List Edition) (bytes : List ℕ) (why w : ℕ) where
   pub passed-on : openColumn known bytes ≡ refused why w → PassedOn known bytes why w
-  unfolding check reading lookUp andThen need
+  unfolding check reading lookUp next andThen need
   passed-on e =
       record {
         check-says = rw e;
         reading-says = λ a b. rw e;
         look-up-says = λ id h. rw (le-leb id maxId h, e);
+        next-says = λ last t h k. rw (le-leb t maxId h, le-leb last t k, e);
       }
 
   -- and no call has SHORT or NUMBER from elsewhere
@@ -285,3 +288,16 @@ module _ (known : List Edition) (bytes : List ℕ) (why w : ℕ) where
         stopped (openColumn known bytes) _ why w d
         (λ f. f)
         (λ c f g. absurd (never why _ w (of-steps why (other-than BROKEN why l (omega arith)) bytes c _ id) g)))
+
+    pub next-from : (last t : ℕ) → next known bytes last t ≡ refused why w → openColumn known bytes ≡ refused why w
+    unfolding next
+    next-from last t e =
+        need-stopped _ ID 0 _ why w e
+        (λ z. absurd (omega (arith, l, z)))
+        (λ d.
+        need-stopped _ BACK 0 _ why w d
+        (λ z. absurd (omega (arith, l, z)))
+        (λ g.
+        stopped (openColumn known bytes) _ why w g
+        (λ f. f)
+        (λ c f h. absurd (never why _ w (of-next why (other-than BROKEN why l (omega arith)) bytes c t) h))))

@@ -7,6 +7,7 @@ pub mod Pins
 pub mod PinsPlaces
 pub mod PinsSteps
 pub mod PinsProbes
+pub mod PinsNext
 pub mod Demands
 pub mod Meaning
 pub mod MeaningValues
@@ -52,4 +53,6 @@ pub mod Walked
 pub mod Words
 pub mod Never
 pub mod HeaderFaults
+pub mod InTurn
+pub mod Sequences
 pub mod Retired

@@ -9,7 +9,8 @@ use Rattle.format.specs.Ids.{Entry}
 use Rattle.format.specs.Editions.{Edition}
 use Rattle.format.specs.Opening.{Opened, openColumn, idPart}
 use Rattle.format.specs.Check.{accepted}
-use Rattle.format.specs.LookUp.{Place, absent, inside, nowhere, broken, Rule, answer, fromEntry, steps}
+use Rattle.format.specs.LookUp.{Look, Place, found, absent, inside, nowhere, broken, Rule, answer, fromEntry, steps}
+use Rattle.format.specs.Next.{Candidate, decides, inTurn, nextSteps}
 
 -- ---- one number
 
@@ -111,3 +112,19 @@ module _ (k : ℕ) where
     pub of-steps : (rule : Rule) (id : ℕ) → Never k (steps rule bytes c id)
     unfolding steps
     of-steps rule id = of-entry rule id _
+
+    -- ids in turn
+    of-decided : (id : ℕ) (o : Outcome Look) (above : Outcome Candidate) → Never k o → Never k above → Never k (decides id o above)
+    unfolding Never decides
+    of-decided id (done (found o v w)) above h n = tt
+    of-decided id (done (absent w)) above h n = n
+    of-decided id (refused why w) above h n = h
+
+    of-turns : (m id : ℕ) (more : Outcome Candidate) → Never k more → Never k (inTurn m bytes c id more)
+    unfolding inTurn
+    of-turns zero id more h = h
+    of-turns (suc m) id more h = of-decided id _ _ (of-steps _ id) (of-turns m (suc id) more h)
+
+    pub of-next : (t : ℕ) → Never k (nextSteps bytes c t)
+    unfolding nextSteps
+    of-next t = of-turns _ t _ (at-done _)

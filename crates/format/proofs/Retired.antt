@@ -13,9 +13,10 @@ use Rattle.format.specs.Writer.{writeAs}
 use Rattle.format.specs.Opening.{Opened, openColumn}
 use Rattle.format.specs.Check.{check, reading}
 use Rattle.format.specs.LookUp.{lookUp, lookUpIn}
+use Rattle.format.specs.Next.{next, nextIn}
 use Rattle.format.specs.Replies.{refusalNumber}
 use Rattle.format.specs.declared.Refusal as Re
-use Rattle.format.proofs.Never.{Never, never, at-done, at-need, at-none, at-then, of-open, of-accepted, of-steps}
+use Rattle.format.proofs.Never.{Never, never, at-done, at-need, at-none, at-then, of-open, of-accepted, of-steps, of-next}
 use Rattle.format.proofs.Section.{length-blockOf, length-blocks}
 use Rattle.format.proofs.Bounds.{rank-le, block-le, end-le}
 use Rattle.format.proofs.RoundTrip.{power16, power-ge, blocks-asc, blocks-fine, blocks-le}
@@ -96,10 +97,20 @@ module _ (known : List Edition) (bytes : List ℕ) (w : ℕ) where
   unfolding lookUp
   look-up-never-5 id = never 5 _ w (at-need 5 _ _ _ _ refl (at-then 5 _ _ open-not-5 (λ c. of-steps 5 refl bytes c _ id)))
 
+  pub next-never-5 : (last t : ℕ) → next known bytes last t ≡ refused 5 w → ⊥
+  unfolding next
+  next-never-5 last t =
+      never 5 _ w (at-need 5 _ _ _ _ refl (at-need 5 _ _ _ _ refl (at-then 5 _ _ open-not-5 (λ c. of-next 5 refl bytes c t))))
+
 pub look-up-in-never-5 : (bytes : List ℕ) (c : Opened) (id w : ℕ) → lookUpIn bytes c id ≡ refused 5 w → ⊥
 unfolding lookUpIn
 look-up-in-never-5 bytes c id w =
     never 5 _ w (at-need 5 _ _ _ _ refl (at-need 5 _ _ _ _ refl (at-need 5 _ _ _ _ refl (of-steps 5 refl bytes c _ id))))
+
+pub next-in-never-5 : (bytes : List ℕ) (c : Opened) (last t w : ℕ) → nextIn bytes c last t ≡ refused 5 w → ⊥
+unfolding nextIn
+next-in-never-5 bytes c last t w =
+    never 5 _ w (at-need 5 _ _ _ _ refl (at-need 5 _ _ _ _ refl (at-need 5 _ _ _ _ refl (at-need 5 _ _ _ _ refl (of-next 5 refl bytes c t)))))
 
 -- the type that the code answers: whatever keeps the contract of `Refusal::number` is not 5
 pub number-never-5 : (why : Re.Refusal) (r : ℕ) → r ≡ refusalNumber why → r ≡ 5 → ⊥
@@ -120,3 +131,4 @@ number-never-5 why r e f = go why (cc)
     go Re.Refusal.Damaged e = omega arith
     go Re.Refusal.Id e = omega arith
     go Re.Refusal.Broken e = omega arith
+    go Re.Refusal.Back e = omega arith

@@ -20,7 +20,7 @@ pub use native.Mathlib.Omega.{arith}
 pub use lib.Arith.{digits-div, digits-lt, digits-mod, mod-mul}
 pub use lib.Bits.{and-mask, and-self, and-step, bitAnd, bitOr, or-shifted}
 unfoldable pub use lib.Count.{leadingZeros, ones, onesIn, trailingZeros}
-pub use lib.Count.{leading-le, ones-cat, ones-le, ones-step}
+pub use lib.Count.{leading-le, ones-cat, ones-le, ones-step, trailing-le, under}
 pub use lib.Dec.{T, eqb, leb, leb→le, le→leb, lit<, lit≤, ltb, nleb→lt}
 pub use lib.IntN.{_+ℤ_, _-ℤ_, natAbs, negsuc, negℤ, negℤ-+ℤ, negℤ-negℤ, pos, subℕ, ℤ, +ℤ-assoc, +ℤ-comm, +ℤ-idl, +ℤ-idr, +ℤ-invl, +ℤ-invr}
 pub use lib.IntN.{+ℤ-negℤ-cancel, -ℤ-+ℤ-cancel}

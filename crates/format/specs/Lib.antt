@@ -18,6 +18,7 @@ pub mod Rules
 pub mod Check
 pub mod LookUp
 pub mod Walk
+pub mod Next
 pub mod Replies
 pub mod Runs
 pub mod Stores

@@ -1,10 +1,11 @@
 // The score column's format: every definition of document 01 stands in specs/, and the theorems about them in proofs/. Here are
 // the types of the library's answers; specs/Replies.antt gives the paper's number for each of their cases.
 ghost use mathlib.Core.Path.{_≡_};
+ghost use Rattle.format.specs.Next.{newCursor};
 ghost use Rattle.format.specs.Replies.{refusalNumber, refusalWith};
 
-// Document 01's refusals, each with the number that goes with it, where that is not always 0; for SHORT and NUMBER it is document 02's
-// ([4]). There is no OFFSET, which cannot happen (document 02, [7]).
+// Document 01's refusals, and document 02's BACK ([1]), each with the number that goes with it, where that is not always 0; for SHORT and
+// NUMBER it is document 02's ([4]). There is no OFFSET, which cannot happen (document 02, [7]).
 pub enum Refusal {
     Lengths,
     Power,
@@ -20,6 +21,7 @@ pub enum Refusal {
     Damaged,
     Id,
     Broken,
+    Back,
 }
 
 // What the writer (its byte count), the check and the reading (n) answer.
@@ -41,6 +43,33 @@ pub enum Answer {
         probes: u64,
     },
     Refused(Refusal),
+}
+
+// The last target that was answered (document 02, [1]). Any is fit.
+pub struct Cursor {
+    pub last: u32,
+}
+
+impl Cursor {
+    // Below a new one lies no target.
+    pub fn new() -> Cursor
+        ensures { λ r. ⌜ r .last ≡ newCursor ⌝ }
+    {
+        Cursor { last: 0 }
+    }
+}
+
+// The next listed id, none, or a refusal.
+pub enum Candidate {
+    Found { id: u32, ordinal: u64, value: i64 },
+    Nothing,
+    Refused(Refusal),
+}
+
+// What a call for the next candidate answers, with the cursor afterwards.
+pub struct Next {
+    pub cursor: Cursor,
+    pub candidate: Candidate,
 }
 
 // What the header says of the values, in the words of its edition: the numbers 6 to 8 (the smallest value as its header number).
@@ -77,6 +106,7 @@ impl Refusal {
             Refusal::Damaged => 13,
             Refusal::Id => 14,
             Refusal::Broken => 15,
+            Refusal::Back => 16,
         }
     }
 
@@ -99,6 +129,7 @@ impl Refusal {
             Refusal::Damaged => 0,
             Refusal::Id => 0,
             Refusal::Broken => 0,
+            Refusal::Back => 0,
         }
     }
 }

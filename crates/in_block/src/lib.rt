@@ -90,7 +90,7 @@ fn bit_of(long: u64, b: usize) -> u64
 }
 
 // The ones below bit b.
-fn ones_under(long: u64, b: usize) -> u64
+pub fn ones_under(long: u64, b: usize) -> u64
     requires { ⌜ b < 64 ⌝ }
     ensures { λ r. ⌜ (r ≡ onesIn 64 (long % 2 ^ b)) × (r ≤ 64) ⌝ }
 {
@@ -98,7 +98,7 @@ fn ones_under(long: u64, b: usize) -> u64
 }
 
 // The first long of the stride of place r.
-fn stride_long(p: usize, r: usize) -> usize
+pub fn stride_long(p: usize, r: usize) -> usize
     requires { ⌜ (Power p) × (r < blockPlaces) ⌝ }
     ensures { λ f. ⌜ (f ≡ strideLong p r) × (f ≤ r / 64) ⌝ }
 {
@@ -109,7 +109,7 @@ fn stride_long(p: usize, r: usize) -> usize
 }
 
 // The rank of the stride of place r, from the table at t.
-fn stride_rank(s: &[u8], t: usize, p: usize, r: usize) -> u64
+pub fn stride_rank(s: &[u8], t: usize, p: usize, r: usize) -> u64
     requires { ⌜ (Power p) × (r < blockPlaces) × (t + rankBytes p ≤ length (now s)) ⌝ }
     ensures { λ x. ⌜ (x ≡ strideRank p (now (s .entry)) t r) × (x < blockPlaces) ⌝ }
 {

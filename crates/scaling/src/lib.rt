@@ -3,7 +3,8 @@
 // so that no sum or difference has a sign.
 ghost use mathlib.Core.Path.{_≡_};
 ghost use mathlib.Core.Logic.{_⊎_};
-ghost use Prim.Native.Nat.{_+_, _-_, _*_, _/_, _≤_, _<_, min, max};
+ghost use mathlib.Core.Bool.{true};
+ghost use Prim.Native.Nat.{_+_, _-_, _*_, _/_, _^_, _≤_, _<_, min, max};
 ghost use lib.Dec.{leb};
 ghost use Rattle.format.specs.HeaderNumbers.{unzigzag};
 ghost use Rattle.format.specs.Values.{smallest, spread, gcd, gcdFrom, differences, divisor, valueAt};
@@ -199,19 +200,29 @@ pub fn quotient(x: u64, d: u64, m: u64) -> u64
     x / d
 }
 
-// Whether stored * divisor is at most room; without a division where the divisor is 1 or both are below 2^32. Divisor 1 comes first:
-// of numbers on both sides of 2^32 the other test would be guessed wrong half of the time.
+// Whether stored * divisor is in reach of 64 bits at a glance: the divisor is 1, or both are below 2^32. Divisor 1 comes first: of
+// numbers on both sides of 2^32 the other test would be guessed wrong half of the time. (With 0 among them the division that is left
+// needs no test of its own.)
+fn product_small(stored: u64, divisor: u64) -> bool
+    ensures { λ r. ⌜ (r ≡ true → stored * divisor < 2 ^ 64) ⌝ }
+{
+    if divisor <= 1 {
+        return true;
+    }
+    if stored < SMALL {
+        return divisor < SMALL;
+    }
+    false
+}
+
+// Whether stored * divisor is at most room; without a division where the product is small. (Short enough for step 7 to be compiled into
+// both of its callers, the look-up and the next candidate.)
 pub fn product_fits(stored: u64, divisor: u64, room: u64) -> bool
     requires { ⌜ 0 < divisor ⌝ }
     ensures { λ r. ⌜ r ≡ leb (stored * divisor) room ⌝ }
 {
-    if divisor == 1 {
-        return stored <= room;
-    }
-    if stored < SMALL {
-        if divisor < SMALL {
-            return stored * divisor <= room;
-        }
+    if product_small(stored, divisor) {
+        return stored * divisor <= room;
     }
     stored <= room / divisor
 }

@@ -1,2 +1,3 @@
--- The three demands, stated for the calls of this crate.
+-- The three demands, and the sequences of document 02, [1], stated for the calls of this crate.
 pub mod Demands
+pub mod Sequences

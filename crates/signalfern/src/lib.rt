@@ -1,5 +1,5 @@
-// Signalfern: score columns written, checked, read back and looked up. Each call can be handed any input at all; its promise fixes
-// the reply and every lent buffer afterwards by the definitions of crate format (document 01).
+// Signalfern: score columns written, checked, read back, looked up and walked. Each call can be handed any input at all; its promise
+// fixes the reply and every lent buffer afterwards by the definitions of crate format (document 01, and document 02 for what it adds).
 ghost use mathlib.Core.Path.{_≡_};
 ghost use lib.ListN.{length};
 ghost use Rattle.format.specs.Writer.{write, writeReply, writeOut};
@@ -9,10 +9,13 @@ ghost use Rattle.format.specs.Editions.{editions};
 ghost use Rattle.format.specs.Opening.{Opened, openColumn};
 ghost use Rattle.format.specs.LookUp.{stepProbes, lookUp, lookUpProbes, lookUpIn};
 ghost use Rattle.format.specs.Walk.{FewWords};
-ghost use Rattle.format.specs.Replies.{replyOf, answerOf, Probed};
+ghost use Rattle.format.specs.Next.{next, nextIn, lastAfter};
+ghost use Rattle.format.specs.Replies.{replyOf, answerOf, candidateOf, Probed};
 ghost use Rattle.column.specs.Opened.{columnOf};
 use column::Column;
 use format::Answer;
+use format::Cursor;
+use format::Next;
 use format::Reply;
 
 // Writes the column of the pairs (ids, values) at rank power `power` into `out` and hands back its byte count. Refusals 1 to 4
@@ -65,4 +68,23 @@ pub fn look_up_in(column: Column, bytes: &[u8], id: u32) -> Answer
     ensures probes { λ r. ⌜ Probed (stepProbes (now (bytes .entry)) (columnOf column) id) r ⌝ }
 {
     lookup::look_up_in(column, bytes, id)
+}
+
+// The next scored candidate (document 02, [1]): the first listed id at or above the target with its ordinal and value, or that there is
+// none, and the cursor for the call after it. Refusals 14, then 16 for a target below the last one answered, 7 to 11, 15; a refusal
+// keeps the cursor. Any cursor is fit, and a new one is `Cursor::new()`.
+pub fn next(cursor: Cursor, bytes: &[u8], target: u32) -> Next
+    ensures answers { λ r. ⌜ candidateOf (r .candidate) ≡ next editions (now (bytes .entry)) (cursor .last) target ⌝ }
+    ensures cursor { λ r. ⌜ r .cursor .last ≡ lastAfter (next editions (now (bytes .entry)) (cursor .last) target) (cursor .last) target ⌝ }
+{
+    next::next(cursor, bytes, target)
+}
+
+// The same from a column that `Column::open` gave for these bytes, without reading the header again. Any other numbers in its place
+// are safe: 14, 16, then 10 where they break a header rule, 11 where they do not fit these bytes, then 15.
+pub fn next_in(column: Column, cursor: Cursor, bytes: &[u8], target: u32) -> Next
+    ensures answers { λ r. ⌜ candidateOf (r .candidate) ≡ nextIn (now (bytes .entry)) (columnOf column) (cursor .last) target ⌝ }
+    ensures cursor { λ r. ⌜ r .cursor .last ≡ lastAfter (nextIn (now (bytes .entry)) (columnOf column) (cursor .last) target) (cursor .last) target ⌝ }
+{
+    next::next_in(column, cursor, bytes, target)
 }

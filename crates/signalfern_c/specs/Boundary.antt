@@ -2,13 +2,15 @@
 -- free hold 0. Assumes nothing.
 use Rattle.format.specs.Kit.{ℕ, List, Option, none, some, leb, pos}
 use Rattle.format.specs.Limits.{maxId}
-use Rattle.format.specs.Refusals.{Outcome, done, refused, need, HEADER, ID}
+use Rattle.format.specs.Refusals.{Outcome, done, refused, need, HEADER, ID, BACK}
 use Rattle.format.specs.LookUp.{Look, found, absent, stepProbes, lookUpIn}
+use Rattle.format.specs.Next.{Candidate, candidateAt, noCandidate, nextIn, lastAfter}
 use Rattle.format.specs.Editions.{Edition, numberOf, editions, editionIn}
 use Rattle.format.specs.Opening as Op
 use Rattle.signalfern_c.specs.declared.CReply.{CReply}
 use Rattle.signalfern_c.specs.declared.CAnswer.{CAnswer}
 use Rattle.signalfern_c.specs.declared.CColumn.{CColumn}
+use Rattle.signalfern_c.specs.declared.CCandidate.{CCandidate}
 
 -- refusal 0: the byte count or n; otherwise the refusal's number and the number with it
 abbrev pub replyC : Outcome ℕ → CReply
@@ -89,3 +91,25 @@ knownProbesC bytes c id none = 0
 
 abbrev pub probesInC : List ℕ → CColumn → ℕ → ℕ
 probesInC bytes c id = knownProbesC bytes c id (editionIn editions (c .edition))
+
+-- ---- document 02, [1]
+
+-- kind 0 found, 1 none, otherwise the refusal's number; with the cursor afterwards
+abbrev pub candidateC : Outcome Candidate → ℕ → CCandidate
+candidateC (done (candidateAt id o v)) last = record { kind = 0; number = 0; id = id; ordinal = o; value = v; cursor = record { last = last } }
+candidateC (done noCandidate) last = record { kind = 1; number = 0; id = 0; ordinal = 0; value = pos 0; cursor = record { last = last } }
+candidateC (refused why w) last = record { kind = why; number = w; id = 0; ordinal = 0; value = pos 0; cursor = record { last = last } }
+
+abbrev pub toldC : Outcome Candidate → ℕ → ℕ → CCandidate
+toldC o last t = candidateC o (lastAfter o last t)
+
+-- where a column's edition number is none: 14, 16, then a header rule is broken
+abbrev pub unknownNextC : ℕ → ℕ → Outcome Candidate
+unknownNextC last t = need (leb t maxId) ID 0 (need (leb last t) BACK 0 (refused HEADER 0))
+
+abbrev pub knownNextC : List ℕ → CColumn → ℕ → ℕ → Option Edition → Outcome Candidate
+knownNextC bytes c last t (some ed) = nextIn bytes (openedAs ed c) last t
+knownNextC bytes c last t none = unknownNextC last t
+
+abbrev pub nextInC : List ℕ → CColumn → ℕ → ℕ → Outcome Candidate
+nextInC bytes c last t = knownNextC bytes c last t (editionIn editions (c .edition))

@@ -11,16 +11,22 @@ ghost use Rattle.format.specs.Opening as Op;
 ghost use Rattle.format.specs.Opening.{openColumn};
 ghost use Rattle.format.specs.LookUp.{lookUp, lookUpProbes};
 ghost use Rattle.format.specs.Walk.{FewWords};
-ghost use Rattle.format.specs.Replies.{replyOf, answerOf, Probed};
-ghost use Rattle.column.specs.Opened.{openedOf};
-ghost use Rattle.signalfern_c.specs.Boundary.{replyC, answerC, columnC, unknownC, lookUpInC, probesInC};
+ghost use Rattle.format.specs.Next.{next};
+ghost use Rattle.format.specs.Replies.{replyOf, answerOf, candidateOf, Probed};
+ghost use Rattle.values.specs.Edition.{editionOf};
+ghost use Rattle.column.specs.Opened.{columnOf, openedOf};
+ghost use Rattle.signalfern_c.specs.Boundary.{replyC, answerC, columnC, openedAs, unknownC, lookUpInC, probesInC, candidateC, toldC, unknownNextC, nextInC};
 use column::Column;
 use column::Head;
 use column::Known;
 use column::Opening;
 use format::Answer;
+use format::Candidate;
+use format::Cursor;
+use format::Next;
 use format::Refusal;
 use format::Reply;
+use values::Edition;
 use values::Fields;
 
 // signalfern_reply
@@ -56,6 +62,23 @@ pub struct CColumn {
     pub divisor: u64,
     pub value_bytes: u64,
     pub start: u64,
+}
+
+// signalfern_cursor
+#[repr(C)]
+pub struct CCursor {
+    pub last: u32,
+}
+
+// signalfern_candidate
+#[repr(C)]
+pub struct CCandidate {
+    pub kind: u64,
+    pub number: u64,
+    pub id: u64,
+    pub ordinal: u64,
+    pub value: i64,
+    pub cursor: CCursor,
 }
 
 fn reply_c(reply: Reply) -> CReply
@@ -149,6 +172,63 @@ fn column_c(opened: Opening) -> CColumn
     }
 }
 
+// A column handed in goes by its numbers alone.
+fn column_of(edition: Edition, column: CColumn) -> Column
+    ensures { λ r. ⌜ columnOf r ≡ openedAs (editionOf edition) column ⌝ }
+{
+    Column {
+        head: Head {
+            edition,
+            count: column.count,
+            power: column.power,
+            id_bytes: column.id_bytes,
+            jump_count: column.jump_count,
+            fields: Fields {
+                width: column.width,
+                smallest: column.smallest,
+                divisor: column.divisor,
+            },
+            value_bytes: column.value_bytes,
+        },
+        start: column.start,
+    }
+}
+
+fn candidate_c(next: Next) -> CCandidate
+    ensures { λ r. ⌜ r ≡ candidateC (candidateOf (next .candidate)) (next .cursor .last) ⌝ }
+{
+    let cursor = CCursor {
+        last: next.cursor.last,
+    };
+    let candidate = next.candidate;
+    match candidate {
+        Candidate::Found { id, ordinal, value } => CCandidate {
+            kind: 0,
+            number: 0,
+            id: id as u64,
+            ordinal,
+            value,
+            cursor,
+        },
+        Candidate::Nothing => CCandidate {
+            kind: 1,
+            number: 0,
+            id: 0,
+            ordinal: 0,
+            value: 0,
+            cursor,
+        },
+        Candidate::Refused(why) => CCandidate {
+            kind: why.number(),
+            number: why.number_with(),
+            id: 0,
+            ordinal: 0,
+            value: 0,
+            cursor,
+        },
+    }
+}
+
 #[no_mangle]
 pub extern "C" fn signalfern_write(
     ids: &[u32],
@@ -223,22 +303,55 @@ pub extern "C" fn signalfern_look_up_in(column: CColumn, bytes: &[u8], id: u32) 
         let answer = no_edition(id);
         return answer_c(answer);
     };
-    let c = Column {
-        head: Head {
-            edition,
-            count: column.count,
-            power: column.power,
-            id_bytes: column.id_bytes,
-            jump_count: column.jump_count,
-            fields: Fields {
-                width: column.width,
-                smallest: column.smallest,
-                divisor: column.divisor,
-            },
-            value_bytes: column.value_bytes,
-        },
-        start: column.start,
-    };
-    let answer = signalfern::look_up_in(c, bytes, id);
+    let answer = signalfern::look_up_in(column_of(edition, column), bytes, id);
     answer_c(answer)
+}
+
+#[no_mangle]
+pub extern "C" fn signalfern_next(cursor: CCursor, bytes: &[u8], target: u32) -> CCandidate
+    ensures { λ r. ⌜ r ≡ toldC (next editions (now (bytes .entry)) (cursor .last) target) (cursor .last) target ⌝ }
+{
+    let next = signalfern::next(Cursor { last: cursor.last }, bytes, target);
+    candidate_c(next)
+}
+
+// Where a column's edition number is none: 14, 16, then 10. The cursor stays.
+fn no_edition_next(last: u32, target: u32) -> Next
+    ensures { λ r. ⌜ (candidateOf (r .candidate) ≡ unknownNextC last target) × (r .cursor .last ≡ last) ⌝ }
+{
+    let cursor = Cursor { last };
+    if !column::id_ok(target) {
+        return Next {
+            cursor,
+            candidate: Candidate::Refused(Refusal::Id),
+        };
+    }
+    if target < last {
+        return Next {
+            cursor,
+            candidate: Candidate::Refused(Refusal::Back),
+        };
+    }
+    Next {
+        cursor,
+        candidate: Candidate::Refused(Refusal::Header),
+    }
+}
+
+#[no_mangle]
+pub extern "C" fn signalfern_next_in(
+    column: CColumn,
+    cursor: CCursor,
+    bytes: &[u8],
+    target: u32,
+) -> CCandidate
+    ensures { λ r. ⌜ r ≡ toldC (nextInC (now (bytes .entry)) column (cursor .last) target) (cursor .last) target ⌝ }
+{
+    let last = cursor.last;
+    let Known::Is(held) = column::edition_in(column.edition) else {
+        let next = no_edition_next(last, target);
+        return candidate_c(next);
+    };
+    let next = signalfern::next_in(column_of(held, column), Cursor { last }, bytes, target);
+    candidate_c(next)
 }

@@ -69,27 +69,27 @@ pub fn by_column(bytes: &[u8], ids: &[u32], runs: usize) -> Measured {
     )
 }
 
-/// Ids asked for, so many a run. No run asks for those of the run before, so that neither side finds
-/// in the cache what the other has just fetched.
-struct Turns<'a> {
-    ids: &'a [u32],
+/// What is asked for, so many a run. No run asks for that of the run before, so that neither side
+/// finds in the cache what the other has just fetched.
+pub struct Turns<'a, T> {
+    asked: &'a [T],
     taken: usize,
 }
 
-impl<'a> Turns<'a> {
-    fn new(ids: &'a [u32]) -> Self {
-        Self { ids, taken: 0 }
+impl<'a, T: Copy> Turns<'a, T> {
+    pub fn new(asked: &'a [T]) -> Self {
+        Self { asked, taken: 0 }
     }
 
-    fn sum(&mut self, look_up: impl Fn(u32) -> u64) -> u64 {
-        let mut runs = self.ids.chunks(LOOK_UPS);
-        let ids = runs.nth(self.taken % runs.len()).unwrap_or(&[]);
+    pub fn sum(&mut self, ask: impl Fn(T) -> u64) -> u64 {
+        let mut runs = self.asked.chunks(LOOK_UPS);
+        let asked = runs.nth(self.taken % runs.len()).unwrap_or(&[]);
         self.taken += 1;
-        ids.iter().fold(0, |sum, &id| sum ^ look_up(id))
+        asked.iter().fold(0, |sum, &it| sum ^ ask(it))
     }
 }
 
-fn value(answer: Result<signalfern::Answer, signalfern::Refusal>) -> u64 {
+pub fn value(answer: Result<signalfern::Answer, signalfern::Refusal>) -> u64 {
     match answer {
         Ok(signalfern::Answer::Found { value, .. }) => value as u64,
         Ok(signalfern::Answer::Absent { words, .. }) => words,

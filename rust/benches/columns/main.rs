@@ -7,6 +7,7 @@
 mod calls;
 mod inputs;
 mod measure;
+mod next;
 mod options;
 mod plot;
 
@@ -29,7 +30,7 @@ fn run(options: &Options) -> Result<(), String> {
     let effort = &options.effort;
     println!("{}\n", measure::machine());
     println!(
-        "Median of {} runs, proved and reference in turns; release build; output buffers written \
+        "Median of {} runs, both sides in turns; release build; output buffers written \
          once before and not cleared between runs; {LOOK_UPS} look-ups a run, each run with other \
          ids than the one before; rank power 9.\n",
         effort.runs
@@ -42,6 +43,7 @@ fn run(options: &Options) -> Result<(), String> {
         Rows::Widths => widths(effort),
         Rows::Divisors => divisors(effort),
         Rows::Counts => counts(effort),
+        Rows::Next => next::table(effort),
     };
     table.print(options.before.as_ref());
     let mut times = Times::default();
@@ -55,7 +57,7 @@ fn run(options: &Options) -> Result<(), String> {
 
 /// Every call on every kind of block, numbers of 12 bits.
 fn shapes(effort: &Effort) -> Table {
-    let mut table = Table::new("column");
+    let mut table = Table::new("column", "reference");
     for (name, shape) in Shape::EACH {
         let input = Input::new(shape, effort.pairs, Values::Any(12));
         whole_columns(&mut table, name, &input, effort.runs);
@@ -73,7 +75,7 @@ fn shapes(effort: &Effort) -> Table {
 
 /// Every call at several widths of stored numbers, in columns with blocks of every kind.
 fn widths(effort: &Effort) -> Table {
-    let mut table = Table::new("width");
+    let mut table = Table::new("width", "reference");
     for width in [0, 1, 7, 8, 12, 14, 15, 16, 20, 33, 57, 58, 63, 64] {
         let input = Input::new(Shape::Mixed, effort.pairs, Values::Any(width));
         let name = width.to_string();
@@ -86,7 +88,7 @@ fn widths(effort: &Effort) -> Table {
 
 /// The calls on whole columns with blocks of every kind, by what the divisor of the values does.
 fn divisors(effort: &Effort) -> Table {
-    let mut table = Table::new("values");
+    let mut table = Table::new("values", "reference");
     for (name, values) in Values::BY_DIVISOR {
         let input = Input::new(Shape::Mixed, effort.pairs, values);
         whole_columns(&mut table, name, &input, effort.runs);
@@ -97,7 +99,7 @@ fn divisors(effort: &Effort) -> Table {
 /// Look-ups of random ids in a few blocks of so many ids each, few enough for the caches: sparse up
 /// to 4000 ids, then dense, then full.
 fn counts(effort: &Effort) -> Table {
-    let mut table = Table::new("ids a block");
+    let mut table = Table::new("ids a block", "reference");
     for count in [1, 3, 20, 200, 1000, 4000, 32_768, 65_536] {
         let blocks = if count < 4096 { 16 } else { 4 };
         let input = Input::new(

@@ -10,7 +10,7 @@ use std::time::Instant;
 #[derive(Clone, Copy)]
 pub struct Measured {
     pub proved: f64,
-    pub reference: f64,
+    pub other: f64,
 }
 
 impl Measured {
@@ -19,17 +19,17 @@ impl Measured {
         runs: usize,
         state: &mut S,
         mut proved: impl FnMut(&mut S) -> u64,
-        mut reference: impl FnMut(&mut S) -> u64,
+        mut other: impl FnMut(&mut S) -> u64,
     ) -> Self {
-        black_box((proved(state), reference(state)));
+        black_box((proved(state), other(state)));
         let mut times = (Vec::new(), Vec::new());
         for _ in 0..runs {
             times.0.push(time(|| proved(state)));
-            times.1.push(time(|| reference(state)));
+            times.1.push(time(|| other(state)));
         }
         Self {
             proved: median(times.0),
-            reference: median(times.1),
+            other: median(times.1),
         }
     }
 }
@@ -74,6 +74,7 @@ impl Times {
 /// A table in Markdown.
 pub struct Table {
     first: &'static str,
+    other: &'static str,
     rows: Vec<Row>,
 }
 
@@ -85,10 +86,11 @@ struct Row {
 }
 
 impl Table {
-    /// `first` heads the first column.
-    pub fn new(first: &'static str) -> Self {
+    /// `first` heads the first column, and `other` names what the proved calls stand beside.
+    pub fn new(first: &'static str, other: &'static str) -> Self {
         Self {
             first,
+            other,
             rows: Vec::new(),
         }
     }
@@ -97,7 +99,7 @@ impl Table {
     pub fn add(&mut self, name: &str, what: &str, unit: &'static str, count: usize, run: Measured) {
         let each = Measured {
             proved: run.proved / count as f64,
-            reference: run.reference / count as f64,
+            other: run.other / count as f64,
         };
         let (name, what) = (name.to_string(), what.to_string());
         self.rows.push(Row {
@@ -112,15 +114,15 @@ impl Table {
     /// columns more.
     pub fn print(&self, before: Option<&Times>) {
         let more = before.map_or("", |_| " before, ns | proved / before |");
+        let (first, other) = (self.first, self.other);
         println!(
-            "| {} | call | for each | proved, ns | reference, ns | proved / reference |{more}",
-            self.first
+            "| {first} | call | for each | proved, ns | {other}, ns | proved / {other} |{more}"
         );
         let more = before.map_or("", |_| "---:|---:|");
         println!("|---|---|---|---:|---:|---:|{more}");
         for row in &self.rows {
-            let Measured { proved, reference } = row.each;
-            let ratio = proved / reference;
+            let Measured { proved, other } = row.each;
+            let ratio = proved / other;
             let mut more = String::new();
             if let Some(time) = before.map(|times| times.0.get(&row.key()).copied()) {
                 let time = time.unwrap_or(f64::NAN);
@@ -129,15 +131,13 @@ impl Table {
             let Row {
                 name, what, unit, ..
             } = row;
-            println!(
-                "| {name} | {what} | {unit} | {proved:.2} | {reference:.2} | {ratio:.2} |{more}"
-            );
+            println!("| {name} | {what} | {unit} | {proved:.2} | {other:.2} | {ratio:.2} |{more}");
         }
-        let ratio = |row: &&Row| row.each.proved / row.each.reference;
+        let ratio = |row: &&Row| row.each.proved / row.each.other;
         let above = |limit: f64| self.rows.iter().filter(|row| ratio(row) > limit).count();
         let rows = self.rows.len();
         println!(
-            "\nOf {rows} lines, {} are above 1.1 and {} above 1.5 of the reference.",
+            "\nOf {rows} lines, {} are above 1.1 and {} above 1.5 of the {other}.",
             above(1.1),
             above(1.5)
         );

@@ -41,6 +41,8 @@ pub enum Rows {
     Divisors,
     /// Look-ups in blocks of few ids to many.
     Counts,
+    /// The next candidate, beside what else gives the same.
+    Next,
 }
 
 /// What stood on the command line.
@@ -74,6 +76,7 @@ impl Options {
                 "--widths" => options.rows = Rows::Widths,
                 "--divisors" => options.rows = Rows::Divisors,
                 "--counts" => options.rows = Rows::Counts,
+                "--next" => options.rows = Rows::Next,
                 "--plot" => options.plot = Some(value()?.into()),
                 "--save" => options.save = Some(value()?.into()),
                 "--beside" => options.before = Some(Times::read(value()?.as_ref())?),
@@ -84,11 +87,11 @@ impl Options {
     }
 }
 
-const USAGE: &str =
-    "cargo bench --bench columns -- [--widths | --divisors | --counts | --plot FILE.svg] \
-[--save FILE] [--beside FILE]
+const USAGE: &str = "cargo bench --bench columns -- [--widths | --divisors | --counts | --next | \
+--plot FILE.svg] [--save FILE] [--beside FILE]
   --widths       the calls at each width of stored numbers in place of each kind of block
   --divisors     the calls on values with large and small divisors
   --counts       look-ups alone, in blocks of few ids to many
+  --next         the next candidate, beside the look-up, the reading and the reference
   --plot FILE    how look-up, check and reading grow with the pairs and with the bytes, drawn
   --save FILE    keep the times; --beside FILE sets such times, of another revision, beside these";

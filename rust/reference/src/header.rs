@@ -62,7 +62,7 @@ impl Column {
     }
 
     /// "Header rules".
-    pub(crate) fn keeps_the_rules(&self) -> bool {
+    fn keeps_the_rules(&self) -> bool {
         self.edition == EDITION
             && self.count <= MAX_COUNT
             && power_allowed(self.power)
@@ -74,11 +74,22 @@ impl Column {
     }
 
     /// Whether header + L + V is the byte count; the sum can pass 2^64.
-    pub(crate) fn spans(&self, bytes: &[u8]) -> bool {
+    fn spans(&self, bytes: &[u8]) -> bool {
         self.start
             .checked_add(self.id_bytes)
             .and_then(|sum| sum.checked_add(self.value_bytes))
             == Some(bytes.len() as u64)
+    }
+
+    /// Holds any numbers to the header rules and to the byte count.
+    pub(crate) fn opens(&self, bytes: &[u8]) -> Result<(), Refusal> {
+        if !self.keeps_the_rules() {
+            return Err(Refusal::HEADER);
+        }
+        if !self.spans(bytes) {
+            return Err(Refusal::LENGTH);
+        }
+        Ok(())
     }
 
     /// The id section and the value section; the column spans the bytes.
@@ -136,12 +147,7 @@ pub fn open(bytes: &[u8]) -> Result<Column, Refusal> {
         start: 0,
     };
     column.start = place as u64;
-    if !column.keeps_the_rules() {
-        return Err(Refusal::HEADER);
-    }
-    if !column.spans(bytes) {
-        return Err(Refusal::LENGTH);
-    }
+    column.opens(bytes)?;
     Ok(column)
 }
 

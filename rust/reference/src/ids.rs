@@ -5,7 +5,7 @@ use crate::{Column, MAX_ID};
 /// The end block.
 const END: [u8; 6] = [0xFF, 0x7F, 0, 0, 0xFF, 0xFF];
 const END_NUMBER: u16 = 0x7FFF;
-const LAST_NUMBER: u16 = (MAX_ID >> 16) as u16;
+pub(crate) const LAST_NUMBER: u16 = (MAX_ID >> 16) as u16;
 const WORDS: usize = 1024;
 const BITMAP_BYTES: usize = 8 * WORDS;
 

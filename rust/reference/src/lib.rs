@@ -8,11 +8,13 @@
 mod header;
 mod ids;
 mod look_up;
+mod next;
 mod sparse;
 mod values;
 
 pub use header::{open, Column};
 pub use look_up::{look_up, look_up_in};
+pub use next::{next, next_by_each_id, next_in, next_listed, Candidate, Next};
 pub use sparse::{halve, scan};
 
 /// The greatest id.
@@ -27,7 +29,7 @@ pub const MAX_WIDTH: u64 = 64;
 /// A refusal: its number in document 01, and the number with it.
 #[derive(Clone, Copy, Debug, PartialEq, Eq)]
 pub struct Refusal {
-    /// 1 to 15, without 5.
+    /// 1 to 16, without 5.
     pub number: u64,
     /// An index, a byte count, a place among the bytes, a pair count or 0.
     pub with: u64,
@@ -47,6 +49,7 @@ impl Refusal {
     const DAMAGED: Self = Self::new(13, 0);
     const ID: Self = Self::new(14, 0);
     const BROKEN: Self = Self::new(15, 0);
+    const BACK: Self = Self::new(16, 0);
 
     const fn order(index: usize) -> Self {
         Self::new(3, index as u64)

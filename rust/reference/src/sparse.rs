@@ -23,9 +23,8 @@ pub fn halve(entries: &[u8], r: u16) -> (Option<usize>, u64) {
     (None, probes)
 }
 
-/// Step 5 as document 01 had it: scan to the first entry at or above `r`; found if equal. No call
-/// goes by it any more: it is here to show where the two differ, and that they do not on entries
-/// that ascend.
+/// Step 5 as document 01 has it: scan to the first entry at or above `r`; found if equal. A look-up
+/// goes by it no more, and the next candidate does (document 02, [1]).
 pub fn scan(entries: &[u8], r: u16) -> Option<usize> {
     let mut entries = entries.chunks_exact(2).map(short);
     let index = entries.clone().position(|entry| entry >= r)?;

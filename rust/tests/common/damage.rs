@@ -6,7 +6,7 @@ use super::{few_ids, ids_of, same, values_of_width, Random, POWERS};
 
 /// How often each refusal came; 0 is for accepted bytes.
 #[derive(Default)]
-pub struct Tally(pub [usize; 16]);
+pub struct Tally(pub [usize; 17]);
 
 impl Tally {
     /// Tries every call on the bytes.

@@ -1,7 +1,7 @@
 //! Each call of the library beside the reference, on buffers filled beforehand.
 
-use signalfern::{Checked, Column, Header, Refusal};
-use signalfern_reference::{self as reference, Answer};
+use signalfern::{Checked, Column, Cursor, Header, Refusal};
+use signalfern_reference::{self as reference, Answer, Candidate};
 
 fn numbers(refusal: Refusal) -> (u64, u64) {
     (refusal.number(), refusal.number_with())
@@ -165,6 +165,74 @@ pub fn look_up_in(header: Header, bytes: &[u8], id: u32) -> Result<Answer, Refus
     let result = header.look_up_in(bytes, id).map(told);
     let expected = plain(reference::look_up_in(&to_reference(header), bytes, id));
     assert_eq!(result.map_err(numbers), expected, "{header:?} id {id}");
+    result
+}
+
+/// What a call for the next candidate gave, in the reference's type.
+pub fn candidate(found: Option<signalfern::Candidate>) -> Option<Candidate> {
+    found.map(|found| Candidate {
+        id: found.id,
+        ordinal: found.ordinal,
+        value: found.value,
+    })
+}
+
+/// Asks for the next candidate by the bytes and, where they open, by the opened column.
+#[track_caller]
+pub fn next_from(
+    cursor: &mut Cursor,
+    bytes: &[u8],
+    target: u32,
+) -> Result<Option<Candidate>, Refusal> {
+    let (before, mut last) = (*cursor, cursor.last());
+    let result = signalfern::next(cursor, bytes, target).map(candidate);
+    let expected = plain(reference::next(&mut last, bytes, target));
+    assert_eq!(result.map_err(numbers), expected, "{before:?}, {target}");
+    assert_eq!(cursor.last(), last, "{before:?}, {target}");
+    assert!(result.is_ok() || *cursor == before, "{before:?}, {target}");
+    if let Ok(column) = Column::open(bytes) {
+        let mut opened = before;
+        let again = column.next(&mut opened, target).map(candidate);
+        assert_eq!((again, opened), (result, *cursor), "{before:?}, {target}");
+    }
+    result
+}
+
+/// From here on there are so few ids that each can be tried.
+pub const HIGH: u32 = 32_763 << 16;
+
+/// The next candidate from a cursor at 7, which a refusal keeps; beside each id in turn, where these
+/// are few.
+#[track_caller]
+pub fn next(bytes: &[u8], target: u32) -> Result<Option<Candidate>, Refusal> {
+    let mut cursor = Cursor::at(7);
+    let answer = next_from(&mut cursor, bytes, target);
+    let last = if answer.is_ok() { target } else { 7 };
+    assert_eq!(cursor, Cursor::at(last), "{target}");
+    if target >= HIGH {
+        let each = plain(reference::next_by_each_id(&mut 7, bytes, target));
+        assert_eq!(answer.map_err(numbers), each, "{target}");
+    }
+    answer
+}
+
+/// Asks for the next candidate by any numbers in any bytes.
+#[track_caller]
+pub fn next_in(
+    header: Header,
+    cursor: &mut Cursor,
+    bytes: &[u8],
+    target: u32,
+) -> Result<Option<Candidate>, Refusal> {
+    let (before, mut last) = (*cursor, cursor.last());
+    let result = header.next_in(cursor, bytes, target).map(candidate);
+    let expected = reference::next_in(&to_reference(header), &mut last, bytes, target);
+    assert_eq!(
+        result.map_err(numbers),
+        plain(expected),
+        "{header:?}, {before:?}, {target}"
+    );
+    assert_eq!(cursor.last(), last, "{header:?}, {before:?}, {target}");
     result
 }
 

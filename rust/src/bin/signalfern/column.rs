@@ -1,6 +1,6 @@
 //! The opened column of the package: the one place where the tool uses it.
 
-use signalfern::{Answer, Column, Refusal};
+use signalfern::{Answer, Candidates, Column, Refusal};
 
 /// A column to be asked for many ids.
 pub struct Asked<'a>(Column<'a>);
@@ -12,6 +12,10 @@ impl<'a> Asked<'a> {
 
     pub fn look_up(&self, id: u32) -> Result<Answer, Refusal> {
         self.0.look_up(id)
+    }
+
+    pub fn candidates_from(&self, id: u32) -> Candidates<'a> {
+        self.0.candidates_from(id)
     }
 }
 

@@ -40,6 +40,8 @@ pub fn run(mut arguments: Arguments) -> Result<(), Failure> {
     print("the same lines as at first\n")?;
     let ids = ["7", "8", "70001", "200000", "2147352575"].map(Path::new);
     step(&[&["look-up".as_ref(), column.as_path()], &ids[..]].concat())?;
+    let from = ["60000", "--count", "3"].map(Path::new);
+    step(&[&["next".as_ref(), column.as_path()], &from[..]].concat())?;
     step(&["show".as_ref(), &column])?;
     print(&format!("\nThe files are in {}\n", named(&folder)))
 }

@@ -24,9 +24,9 @@ impl Object {
         self
     }
 
-    pub fn number(mut self, key: &str, value: u64) -> Self {
+    pub fn number(mut self, key: &str, value: impl Into<i128>) -> Self {
         self.key(key);
-        self.0.push_str(&value.to_string());
+        self.0.push_str(&value.into().to_string());
         self
     }
 
@@ -71,11 +71,14 @@ mod tests {
 
     #[test]
     fn objects_are_escaped() {
-        let object = Object::new().text("a\"", "\n\\\u{e9}").number("n", 7);
+        let object = Object::new()
+            .text("a\"", "\n\\\u{e9}")
+            .number("n", 7)
+            .number("v", i64::MIN);
         let texts = ["x".to_string(), "y".to_string()];
         assert_eq!(
             object.texts("t", &texts).texts("e", &[]).line(),
-            "{\"a\\\"\":\"\\u000a\\\\\u{e9}\",\"n\":7,\"t\":[\"x\",\"y\"],\"e\":[]}\n"
+            "{\"a\\\"\":\"\\u000a\\\\\u{e9}\",\"n\":7,\"v\":-9223372036854775808,\"t\":[\"x\",\"y\"],\"e\":[]}\n"
         );
     }
 }

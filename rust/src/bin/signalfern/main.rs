@@ -25,6 +25,7 @@ mod look_up;
 mod man;
 mod memory;
 mod nearest;
+mod next;
 mod output;
 mod pairs;
 mod printing;

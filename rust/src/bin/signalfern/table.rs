@@ -3,7 +3,7 @@
 
 use crate::arguments::Arguments;
 use crate::failure::Failure;
-use crate::{check, demo, help, look_up, read, show, write};
+use crate::{check, demo, help, look_up, next, read, show, write};
 
 /// One command of the tool.
 pub struct Command {
@@ -72,7 +72,7 @@ stands for standard output.";
 
 pub const STATUS: &str = "Exit status: 0 done; 1 the input is refused (the refusal's number, name \
 and meaning stand on standard error, and nothing is written); 2 the command line is wrong or a file \
-cannot be used. Refusals 1 to 15 are the library's (5 is not used), those from 101 the tool's.";
+cannot be used. Refusals 1 to 16 are the library's (5 is not used), those from 101 the tool's.";
 
 /// What "sound" means, wherever the word is used.
 pub const SOUND: &str = "Sound means: the bytes are the column of one list of pairs, to the last \
@@ -80,7 +80,7 @@ bit, as the writer would give it. It does not mean that nobody changed a score: 
 checksum, and most changes of a stored value give another sound column. To know that a file is the \
 one that was written, compare its SHA-256 digest: --digest, or a file COLUMN.sha256 beside it.";
 
-pub static COMMANDS: &[Command] = &[WRITE, CHECK, READ, LOOK_UP, SHOW, DEMO, HELP];
+pub static COMMANDS: &[Command] = &[WRITE, CHECK, READ, LOOK_UP, NEXT, SHOW, DEMO, HELP];
 
 const WRITE: Command = Command {
     name: "write",
@@ -212,6 +212,33 @@ const LOOK_UP: Command = Command {
     run: look_up::run,
 };
 
+const NEXT: Command = Command {
+    name: "next",
+    words: "COLUMN ID [--count K] [--json]",
+    summary: "the first listed ids from an id on",
+    text: &[
+        "Gives the first listed id at or above ID, and with --count those after it. One line for \
+         each: the id, then its value and its ordinal (how many ids lie below it). Where there are no \
+         more, a line `none at or above` says so; that is an answer, and the status is 0.",
+        "The column is checked first: a damaged one could give a wrong value.",
+    ],
+    options: &[
+        option(
+            None,
+            "count",
+            ("K", Value::Other),
+            "so many ids, each the first above the one before it. The default is 1",
+        ),
+        flag(
+            None,
+            "json",
+            "one JSON object a line for each answer, with the id from which on it was sought",
+        ),
+    ],
+    operands: Value::File,
+    run: next::run,
+};
+
 const SHOW: Command = Command {
     name: "show",
     words: "COLUMN",
@@ -259,6 +286,8 @@ const HELP: Command = Command {
             "completions for bash, zsh or fish",
         ),
     ],
-    operands: Value::OneOf(&["write", "check", "read", "look-up", "show", "demo", "help"]),
+    operands: Value::OneOf(&[
+        "write", "check", "read", "look-up", "next", "show", "demo", "help",
+    ]),
     run: help::run,
 };

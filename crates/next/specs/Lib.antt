@@ -1,0 +1,2 @@
+-- What the code's steps over blocks stand for.
+pub mod Blocks
