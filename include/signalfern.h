@@ -2,15 +2,16 @@
  * Signalfern: score columns.
  *
  * A column is a byte string that holds n pairs: an id (0 to 2147352575, strictly ascending) and a
- * signed 64-bit value. It can be written, checked, read whole, asked for one id, and walked over from
- * id to id. x86-64 Linux.
+ * signed 64-bit value. It can be written, checked, read whole, asked for one id, walked over from id
+ * to id, and overlaid with a correction. x86-64 Linux.
  *
  *     cc program.c $(pkg-config --cflags --libs signalfern)     after `make install`
  *
- * Eight calls are proved to do what is said here, on every input: signalfern_write, _check, _read,
- * _look_up, _open, _look_up_in, _next and _next_in. They alone are in libsignalfern_c.a, which the
- * Rattle kit makes. Four more stand at the end, for names, sentences and the version: plain C, tested
- * and not proved (c/names.c). The installed libsignalfern.a and libsignalfern.so have all twelve.
+ * Eleven calls are proved to do what is said here, on every input: signalfern_write, _check, _read,
+ * _look_up, _open, _look_up_in, _next, _next_in, _look_up_layered, _look_up_layered_in and
+ * _layered_values. They alone are in libsignalfern_c.a, which the Rattle kit makes. Four more stand at
+ * the end, for names, sentences and the version: plain C, tested and not proved (c/names.c). The
+ * installed libsignalfern.a and libsignalfern.so have all fifteen.
  *
  * For every proved call:
  *
@@ -135,6 +136,27 @@ typedef struct {
     signalfern_cursor cursor; /* Found or none: the target is its last. Refused: the cursor as it was. */
 } signalfern_candidate;
 
+/* The two columns of a look-up with a correction on top. */
+enum { SIGNALFERN_MACHINE = 0, SIGNALFERN_CORRECTION = 1 };
+
+/* What signalfern_look_up_layered answers. Fields that a case does not name hold 0. */
+typedef struct {
+    uint64_t kind;             /* SIGNALFERN_FOUND, SIGNALFERN_ABSENT, or the refusal: 7 to 11, 14, 15. */
+    uint64_t number;           /* Refused: the number with the refusal. */
+    uint64_t column;           /* Found: the column that holds the id. Refused: the one that refused. */
+    uint64_t ordinal;          /* Found: the id's index in that column's list, from 0. */
+    int64_t value;             /* Found: the id's value there. */
+    uint64_t machine_words;    /* Found or absent: how many 64-bit words of a bitmap were looked at in */
+    uint64_t correction_words; /* each column, 0 to 1024; 0 for one that was not looked in. */
+} signalfern_layered;
+
+/* A part of one of two columns: len bytes from its byte start on. */
+typedef struct {
+    uint64_t column;
+    uint64_t start;
+    uint64_t len;
+} signalfern_part;
+
 /*
  * Writes the column of the pairs (ids[i], values[i]) to the front of out.
  *
@@ -181,7 +203,7 @@ signalfern_reply signalfern_read(const uint8_t *bytes, size_t len,
 signalfern_answer signalfern_look_up(const uint8_t *bytes, size_t len, uint32_t id);
 
 /*
- * Reads the header, for signalfern_look_up_in and signalfern_next_in. Refused: 7 to 11.
+ * Reads the header, for the calls in an opened column: those that end in _in. Refused: 7 to 11.
  */
 signalfern_column signalfern_open(const uint8_t *bytes, size_t len);
 
@@ -218,6 +240,37 @@ signalfern_candidate signalfern_next(signalfern_cursor cursor,
  */
 signalfern_candidate signalfern_next_in(signalfern_column column, signalfern_cursor cursor,
                                         const uint8_t *bytes, size_t len, uint32_t target);
+
+/*
+ * Looks one id up in a machine column with a correction on top.
+ *
+ * The correction is looked in first, as by signalfern_look_up. Where it holds the id or refuses, that
+ * is the answer, and the machine column is not read, whatever its bytes are. Where the id is absent
+ * there, the machine column's answer or refusal is the call's. An id above the limit is refused as the
+ * correction's. Both may be the same bytes.
+ */
+signalfern_layered signalfern_look_up_layered(const uint8_t *machine, size_t machine_len,
+                                              const uint8_t *correction, size_t correction_len,
+                                              uint32_t id);
+
+/*
+ * The same in two columns opened before, each with its own bytes. Any other columns are allowed too, as
+ * for signalfern_look_up_in, by which each is looked in.
+ */
+signalfern_layered signalfern_look_up_layered_in(signalfern_column machine_column,
+                                                 const uint8_t *machine, size_t machine_len,
+                                                 signalfern_column correction_column,
+                                                 const uint8_t *correction, size_t correction_len,
+                                                 uint32_t id);
+
+/*
+ * Tells where the bytes are that hold the id's value: the value section of the column that
+ * signalfern_look_up_layered names, for the same inputs. Where that finds nothing or refuses, it is an
+ * empty part of the machine column: 0, 0, 0.
+ */
+signalfern_part signalfern_layered_values(const uint8_t *machine, size_t machine_len,
+                                          const uint8_t *correction, size_t correction_len,
+                                          uint32_t id);
 
 /*
  * From here on plain C, not proved (c/names.c). No text is to be freed, and none is NULL.

@@ -57,6 +57,26 @@ pub(crate) struct Candidate {
     pub cursor: Cursor,
 }
 
+#[repr(C)]
+#[derive(Clone, Copy)]
+pub(crate) struct Layered {
+    pub kind: u64,
+    pub number: u64,
+    pub column: u64,
+    pub ordinal: u64,
+    pub value: i64,
+    pub machine_words: u64,
+    pub correction_words: u64,
+}
+
+#[repr(C)]
+#[derive(Clone, Copy)]
+pub(crate) struct Part {
+    pub column: u64,
+    pub start: u64,
+    pub len: u64,
+}
+
 extern "C" {
     fn signalfern_write(
         ids: *const u32,
@@ -87,6 +107,29 @@ extern "C" {
         len: usize,
         target: u32,
     ) -> Candidate;
+    fn signalfern_look_up_layered(
+        machine: *const u8,
+        machine_len: usize,
+        correction: *const u8,
+        correction_len: usize,
+        id: u32,
+    ) -> Layered;
+    fn signalfern_look_up_layered_in(
+        machine_column: Column,
+        machine: *const u8,
+        machine_len: usize,
+        correction_column: Column,
+        correction: *const u8,
+        correction_len: usize,
+        id: u32,
+    ) -> Layered;
+    fn signalfern_layered_values(
+        machine: *const u8,
+        machine_len: usize,
+        correction: *const u8,
+        correction_len: usize,
+        id: u32,
+    ) -> Part;
 }
 
 pub(crate) fn write(ids: &[u32], values: &[i64], power: u32, out: &mut [u8]) -> Reply {
@@ -147,4 +190,25 @@ pub(crate) fn next(cursor: Cursor, bytes: &[u8], target: u32) -> Candidate {
 pub(crate) fn next_in(column: Column, cursor: Cursor, bytes: &[u8], target: u32) -> Candidate {
     // SAFETY: a slice with its own length, only read; the call takes any column and any cursor.
     unsafe { signalfern_next_in(column, cursor, bytes.as_ptr(), bytes.len(), target) }
+}
+
+pub(crate) fn look_up_layered(machine: &[u8], correction: &[u8], id: u32) -> Layered {
+    let (m, c) = (machine, correction);
+    // SAFETY: two slices with their own lengths, only read.
+    unsafe { signalfern_look_up_layered(m.as_ptr(), m.len(), c.as_ptr(), c.len(), id) }
+}
+
+pub(crate) fn look_up_layered_in(
+    (x, m): (Column, &[u8]),
+    (y, c): (Column, &[u8]),
+    id: u32,
+) -> Layered {
+    // SAFETY: two slices with their own lengths, only read; the call takes any columns.
+    unsafe { signalfern_look_up_layered_in(x, m.as_ptr(), m.len(), y, c.as_ptr(), c.len(), id) }
+}
+
+pub(crate) fn layered_values(machine: &[u8], correction: &[u8], id: u32) -> Part {
+    let (m, c) = (machine, correction);
+    // SAFETY: two slices with their own lengths, only read.
+    unsafe { signalfern_layered_values(m.as_ptr(), m.len(), c.as_ptr(), c.len(), id) }
 }

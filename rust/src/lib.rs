@@ -1,12 +1,13 @@
 //! Score columns: byte strings that hold pairs of an id and a signed 64-bit value, with the ids
 //! strictly ascending.
 //!
-//! There are six calls: [`write()`] a column, [`check`] one, [`read`] it whole, [`look_up`] one id,
-//! find the [`next()`] listed one, and [`Column::open`] for many such questions to the same column.
-//! Each is a thin wrapper of a call that is written and proved in Rattle: its answer, its refusal and
-//! every lent byte afterwards are those that document 01 ("Full scope and exact rules") and the
-//! requests of document 02 fix, on every input. This wrapper, the C boundary below it and the
-//! compiler's back end are not proved; they are tested.
+//! There are eight calls: [`write()`] a column, [`check`] one, [`read`] it whole, [`look_up`] one id,
+//! find the [`next()`] listed one, look an id up in a column with a correction on top
+//! ([`look_up_layered`]) and show the bytes that hold it ([`layered_values`]), and [`Column::open`] for
+//! many such questions to the same columns. Each is a thin wrapper of a call that is written and
+//! proved in Rattle: its answer, its refusal and every lent byte afterwards are those that document 01
+//! ("Full scope and exact rules") and the requests of document 02 fix, on every input. This wrapper,
+//! the C boundary below it and the compiler's back end are not proved; they are tested.
 //!
 //! Most programs want [`Checked`]: a column that was checked once, as a sorted map from ids to
 //! values.
@@ -51,6 +52,7 @@ mod checked;
 mod column;
 mod error;
 mod ffi;
+mod layered;
 mod next;
 mod pairs;
 mod refusal;
@@ -59,6 +61,7 @@ pub use calls::{check, look_up, read, read_to_vecs, write, write_pairs, write_to
 pub use checked::Checked;
 pub use column::{Column, Header};
 pub use error::Error;
+pub use layered::{layered_values, look_up_layered, Layer, Layered, LayeredAnswer, LayeredRefusal};
 pub use next::{next, Candidate, Candidates, Cursor};
 pub use pairs::Pairs;
 pub use refusal::Refusal;

@@ -92,6 +92,82 @@ static int next_candidates(void)
     return 0;
 }
 
+static int same_layered(signalfern_layered a, uint64_t kind, uint64_t column, uint64_t ordinal, int64_t value)
+{
+    return a.kind == kind && a.number == 0 && a.column == column && a.ordinal == ordinal && a.value == value &&
+           a.machine_words == 0 && a.correction_words == 0;
+}
+
+static int same_part(signalfern_part part, uint64_t column, uint64_t start, uint64_t len)
+{
+    return part.column == column && part.start == start && part.len == len;
+}
+
+/* A machine column of (4, 10), (6, 12), and a correction of (6, -3), (8, 5) at another rank power. */
+static size_t layers(uint8_t *machine, uint8_t *correction, size_t room, size_t *correction_len)
+{
+    const uint32_t ids[] = {4, 6, 8};
+    const int64_t scores[] = {10, 12}, corrected[] = {-3, 5};
+    *correction_len = signalfern_write(ids + 1, 2, corrected, 2, 0, correction, room).number;
+    return signalfern_write(ids, 2, scores, 2, 9, machine, room).number;
+}
+
+static int corrections(void)
+{
+    PROMISE(sizeof(signalfern_layered) == 56 && offsetof(signalfern_layered, correction_words) == 48);
+    PROMISE(sizeof(signalfern_part) == 24 && offsetof(signalfern_part, len) == 16);
+    uint8_t m[64], c[64];
+    size_t c_len, m_len = layers(m, c, sizeof m, &c_len);
+    const struct {
+        uint32_t id;
+        uint64_t kind, column, ordinal;
+        int64_t value;
+    } cases[] = {
+        {4, SIGNALFERN_FOUND, SIGNALFERN_MACHINE, 0, 10},
+        {5, SIGNALFERN_ABSENT, 0, 0, 0},
+        {6, SIGNALFERN_FOUND, SIGNALFERN_CORRECTION, 0, -3},
+        {8, SIGNALFERN_FOUND, SIGNALFERN_CORRECTION, 1, 5},
+        {SIGNALFERN_MAX_ID + 1, SIGNALFERN_ID, SIGNALFERN_CORRECTION, 0, 0},
+    };
+    signalfern_column x = signalfern_open(m, m_len), y = signalfern_open(c, c_len);
+    for (size_t i = 0; i < sizeof cases / sizeof cases[0]; i++) {
+        signalfern_layered answer = signalfern_look_up_layered(m, m_len, c, c_len, cases[i].id);
+        PROMISE(same_layered(answer, cases[i].kind, cases[i].column, cases[i].ordinal, cases[i].value));
+        signalfern_layered opened = signalfern_look_up_layered_in(x, m, m_len, y, c, c_len, cases[i].id);
+        PROMISE(memcmp(&answer, &opened, sizeof answer) == 0);
+    }
+    /* The value sections are the last byte of each column: two numbers of one bit. */
+    PROMISE(same_part(signalfern_layered_values(m, m_len, c, c_len, 4), SIGNALFERN_MACHINE, m_len - 1, 1));
+    PROMISE(same_part(signalfern_layered_values(m, m_len, c, c_len, 6), SIGNALFERN_CORRECTION, c_len - 1, 1));
+    PROMISE(same_part(signalfern_layered_values(m, m_len, c, c_len, 5), SIGNALFERN_MACHINE, 0, 0));
+    return 0;
+}
+
+/* Which column refused; and a machine column that is not read. */
+static int refused_columns(void)
+{
+    uint8_t m[64], c[64];
+    size_t c_len, m_len = layers(m, c, sizeof m, &c_len);
+    PROMISE(same_layered(signalfern_look_up_layered(NULL, 0, c, c_len, 6), SIGNALFERN_FOUND, SIGNALFERN_CORRECTION, 0, -3));
+    PROMISE(same_layered(signalfern_look_up_layered(NULL, 0, c, c_len, 4), SIGNALFERN_SHORT, SIGNALFERN_MACHINE, 0, 0));
+    PROMISE(same_layered(signalfern_look_up_layered(m, m_len, NULL, 0, 4), SIGNALFERN_SHORT, SIGNALFERN_CORRECTION, 0, 0));
+    signalfern_layered cut = signalfern_look_up_layered(m, m_len, c, 2, 4);
+    PROMISE(cut.kind == SIGNALFERN_SHORT && cut.number == 2 && cut.column == SIGNALFERN_CORRECTION);
+    PROMISE(same_part(signalfern_layered_values(m, m_len, NULL, 0, 4), SIGNALFERN_MACHINE, 0, 0));
+    PROMISE(same_part(signalfern_layered_values(NULL, 0, c, c_len, 4), SIGNALFERN_MACHINE, 0, 0));
+    PROMISE(same_part(signalfern_layered_values(NULL, 0, c, c_len, 6), SIGNALFERN_CORRECTION, c_len - 1, 1));
+
+    signalfern_column x = signalfern_open(m, m_len), y = signalfern_open(c, c_len);
+    x.edition = 2;
+    PROMISE(same_layered(signalfern_look_up_layered_in(x, m, 0, y, c, c_len, 6), SIGNALFERN_FOUND, SIGNALFERN_CORRECTION, 0, -3));
+    PROMISE(same_layered(signalfern_look_up_layered_in(x, m, 0, y, c, c_len, 4), SIGNALFERN_HEADER, SIGNALFERN_MACHINE, 0, 0));
+    y.edition = 0;
+    PROMISE(same_layered(signalfern_look_up_layered_in(x, m, 0, y, c, 0, 6), SIGNALFERN_HEADER, SIGNALFERN_CORRECTION, 0, 0));
+    y.edition = 1;
+    PROMISE(same_layered(signalfern_look_up_layered_in(x, m, 0, y, c, 0, 6), SIGNALFERN_LENGTH, SIGNALFERN_CORRECTION, 0, 0));
+    return 0;
+}
+
 int main(void)
 {
     PROMISE(sizeof(signalfern_reply) == 16);
@@ -192,5 +268,5 @@ int main(void)
     refused.refusal = SIGNALFERN_LENGTH;
     PROMISE(memcmp(&column, &refused, sizeof column) == 0);
     PROMISE(same_answer(signalfern_look_up_in(column, out, len, 4), SIGNALFERN_HEADER, 0, 0, 0, 0));
-    return next_candidates();
+    return next_candidates() || corrections() || refused_columns();
 }

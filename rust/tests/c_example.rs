@@ -49,6 +49,21 @@ next: id 7, value 135, ordinal 2
 }
 
 #[test]
+fn the_example_of_a_correction() {
+    let printed = build_and_run(Path::new("examples/correction.c"), &["-std=c99"]);
+    // The one value of the correction takes no bytes.
+    let expected = "\
+id 7: value 135, ordinal 2 of the machine
+  byte 26: D0
+id 2: value -1, ordinal 0 of the correction
+id 5: in neither
+id 7: the correction is refused: the header tells of more or fewer bytes than there are: the column is cut off or \
+something follows it
+";
+    assert_eq!(printed, expected);
+}
+
+#[test]
 fn the_boundary_is_as_the_header_says() {
     build_and_run(Path::new("rust/tests/boundary.c"), &["-std=c11"]);
 }

@@ -3,7 +3,7 @@
 mod common;
 
 use common::same;
-use signalfern::{Checked, Cursor, Refusal};
+use signalfern::{Checked, Cursor, Layer, Refusal};
 
 const PAGE: &str = include_str!("../../docs/FORMAT.md");
 
@@ -109,6 +109,25 @@ fn the_next_candidate() {
         Ok(Some((9, 0)))
     );
     assert_eq!(next(10), Ok(None));
+}
+
+/// What the page says of a correction on top.
+#[test]
+fn a_correction_on_top() {
+    let machine = taken_apart().swap_remove(0);
+    let correction = same::write_exactly(&[2], &[-1], 9);
+    assert!(PAGE.contains(
+        "With (2, -1) on top of the first column above, id 2 has the value -1 and the ordinal 0, by the \
+         correction; id 7 has the value 135 and the ordinal 2, by the machine column, from byte 26 on."
+    ));
+    for (id, layer, ordinal, value) in [(2, Layer::Correction, 0, -1), (7, Layer::Machine, 2, 135)]
+    {
+        let answer = signalfern::look_up_layered(&machine, &correction, id).unwrap();
+        let told = (answer.layer(), answer.ordinal(), answer.value());
+        assert_eq!(told, (Some(layer), Some(ordinal), Some(value)));
+    }
+    let part = signalfern::layered_values(&machine, &correction, 7);
+    assert!(std::ptr::eq(part, &machine[26..]));
 }
 
 #[test]

@@ -56,6 +56,12 @@ int main(void)
     signalfern_candidate next = signalfern_next(cursor, column, len, 1);
     PROMISE(next.kind == SIGNALFERN_FOUND && next.id == 2 && next.value == 140 && next.cursor.last == 1);
     PROMISE(signalfern_next_in(opened, next.cursor, column, len, 8).kind == SIGNALFERN_NONE);
+    signalfern_layered layered = signalfern_look_up_layered(NULL, 0, column, len, 7);
+    PROMISE(layered.kind == SIGNALFERN_FOUND && layered.column == SIGNALFERN_CORRECTION && layered.value == 135);
+    layered = signalfern_look_up_layered_in(opened, column, len, opened, column, len, 3);
+    PROMISE(layered.kind == SIGNALFERN_ABSENT);
+    signalfern_part part = signalfern_layered_values(NULL, 0, column, len, 7);
+    PROMISE(part.column == SIGNALFERN_CORRECTION && part.start + part.len == len && part.len == opened.value_bytes);
 
     printf("%s\n", signalfern_version());
     for (uint64_t refusal = 1; refusal <= 16; refusal++) {

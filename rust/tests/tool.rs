@@ -181,7 +181,18 @@ fn the_demo() {
     // Every id's score is 135 and five times the rest of seven times the id by twelve.
     let next = "60000 135 ordinal 3\n70001 190 ordinal 4\n70004 175 ordinal 5\n";
     assert!(shown.out.contains(next), "{}", shown.out);
-    let left = ["again.txt", "scores.column", "scores.txt"];
+    // Place 4465 of block 1 is in word 69, the sixth of its stride.
+    let corrected = "7 200 by correction ordinal 0 words machine 0 correction 0\n\
+                     70000 90 by correction ordinal 1 words machine 0 correction 0\n\
+                     70001 190 by machine ordinal 4 words machine 6 correction 0\n";
+    assert!(shown.out.contains(corrected), "{}", shown.out);
+    let left = [
+        "again.txt",
+        "correction.column",
+        "correction.txt",
+        "scores.column",
+        "scores.txt",
+    ];
     assert_eq!(Folder(path.clone().into()).names(), left);
 
     // What is there already stays, whichever of the files it is.

@@ -6,8 +6,8 @@ use std::process::Command;
 
 use common::tool::{has_program, run, Folder};
 
-const COMMANDS: [&str; 8] = [
-    "write", "check", "read", "look-up", "next", "show", "demo", "help",
+const COMMANDS: [&str; 9] = [
+    "write", "check", "read", "look-up", "next", "audit", "show", "demo", "help",
 ];
 
 #[test]
@@ -59,7 +59,14 @@ fn usage() {
     run(&["check", "a", "--digest", "12"]).expect(2, &["`12` is no SHA-256 digest"]);
     run(&["check", "a", "b", "--digest", &"0".repeat(64)]).expect(2, &["is for one file"]);
     run(&["check", "-", "-"]).expect(2, &["standard input can be checked once"]);
-    run(&["look-up", "-", "--ids", "-"]).expect(2, &["cannot both come from standard input"]);
+    let once = "only one file can come from standard input";
+    run(&["look-up", "-", "--ids", "-"]).expect(2, &[once]);
+    run(&["look-up", "-", "7", "--correction", "-"]).expect(2, &[once]);
+    run(&["look-up", "a", "-c", "-", "-i", "-"]).expect(2, &[once]);
+    run(&["audit", "-", "7", "-c", "-"]).expect(2, &[once]);
+    run(&["audit", "a", "7"]).expect(2, &["no correction is named"]);
+    run(&["audit", "a", "-c", "b"]).expect(2, &["no id is named"]);
+    run(&["audit", "a", "7x", "-c", "b"]).expect(2, &["`7x` is no id"]);
     run(&["help", "--man", "check"]).expect(2, &["one of them"]);
     run(&["help", "--completions", "tcsh"]).expect(2, &["no completions for `tcsh`"]);
 }

@@ -5,6 +5,7 @@ use Rattle.format.proofs.Starred.{Starred, starred}
 use Rattle.format.proofs.Pins.{WriterCases, writer-cases, DivisorCases, divisor-cases, HeaderCases, header-cases}
 use Rattle.format.proofs.PinsPlaces.{PlaceCases, place-cases}
 use Rattle.format.proofs.PinsNext.{NextCases, next-cases, NextKindCases, next-kind-cases, NextDamageCases, next-damage-cases}
+use Rattle.format.proofs.PinsLayered.{LayeredCases, layered-cases, LayeredInCases, layered-in-cases, LayeredPartCases, layered-part-cases}
 use Rattle.format.proofs.PinsSteps.{DamageCases, damage-cases, StepCases, step-cases, WalkCases, walk-cases}
 use Rattle.format.proofs.PinsProbes.{HalvingCases, halving-cases, ProbeCases, probe-cases}
 
@@ -22,6 +23,9 @@ pub record AllCases : Type 0 where
   pub next-table : NextCases
   pub next-kind-table : NextKindCases
   pub next-damage-table : NextDamageCases
+  pub layered-table : LayeredCases
+  pub layered-in-table : LayeredInCases
+  pub layered-part-table : LayeredPartCases
 
 pub all-cases : AllCases
 all-cases =
@@ -39,4 +43,7 @@ all-cases =
       next-table = next-cases;
       next-kind-table = next-kind-cases;
       next-damage-table = next-damage-cases;
+      layered-table = layered-cases;
+      layered-in-table = layered-in-cases;
+      layered-part-table = layered-part-cases;
     }

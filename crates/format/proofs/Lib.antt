@@ -8,6 +8,7 @@ pub mod PinsPlaces
 pub mod PinsSteps
 pub mod PinsProbes
 pub mod PinsNext
+pub mod PinsLayered
 pub mod Demands
 pub mod Meaning
 pub mod MeaningValues
@@ -56,3 +57,4 @@ pub mod HeaderFaults
 pub mod InTurn
 pub mod Sequences
 pub mod Retired
+pub mod Layered

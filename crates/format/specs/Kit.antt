@@ -37,3 +37,4 @@ pub use borrow.Author.Tests.{not-true}
 pub use borrow.Fn.Kinds.{In}
 pub use borrow.Fn.PlainCycle.{Measures, and, falls, is}
 pub use borrow.Rule.Slice.PartMut.{post-is, postOf, putMid}
+pub use denote.Ref.{RefT}

@@ -19,6 +19,7 @@ pub mod Check
 pub mod LookUp
 pub mod Walk
 pub mod Next
+pub mod Layered
 pub mod Replies
 pub mod Runs
 pub mod Stores

@@ -10,13 +10,17 @@ ghost use Rattle.format.specs.Opening.{Opened, openColumn};
 ghost use Rattle.format.specs.LookUp.{stepProbes, lookUp, lookUpProbes, lookUpIn};
 ghost use Rattle.format.specs.Walk.{FewWords};
 ghost use Rattle.format.specs.Next.{next, nextIn, lastAfter};
+ghost use Rattle.format.specs.Layered.{lookUpLayered, lookUpLayeredIn, layeredPart, IsPart};
 ghost use Rattle.format.specs.Replies.{replyOf, answerOf, candidateOf, Probed};
 ghost use Rattle.column.specs.Opened.{columnOf};
+ghost use Rattle.layered.specs.Answers.{layeredOf, partOf};
 use column::Column;
 use format::Answer;
 use format::Cursor;
 use format::Next;
 use format::Reply;
+use layered::Layered;
+use layered::Part;
 
 // Writes the column of the pairs (ids, values) at rank power `power` into `out` and hands back its byte count. Refusals 1 to 4
 // and 6 in order, each over the whole input before the next; a refusal changes nothing, and success exactly the column's bytes.
@@ -87,4 +91,46 @@ pub fn next_in(column: Column, cursor: Cursor, bytes: &[u8], target: u32) -> Nex
     ensures cursor { λ r. ⌜ r .cursor .last ≡ lastAfter (nextIn (now (bytes .entry)) (columnOf column) (cursor .last) target) (cursor .last) target ⌝ }
 {
     next::next_in(column, cursor, bytes, target)
+}
+
+// ---- a correction column on top of a machine column (document 02, [10])
+
+// Looks one id up in both and prefers the correction. Found and refused name their column, and the ordinal is the one there; words
+// are told for each column apart. A refusal by the correction refuses the call; an id absent there is looked up in the machine
+// column, which is not opened before.
+pub fn look_up_layered(machine: &[u8], correction: &[u8], id: u32) -> Layered
+    ensures { λ r. ⌜ layeredOf r ≡ lookUpLayered editions (now (machine .entry)) (now (correction .entry)) id ⌝ }
+{
+    layered::look_up_layered(machine, correction, id)
+}
+
+// The same from two columns that `Column::open` gave for these bytes. Any other numbers in their place are safe, as in `look_up_in`.
+pub fn look_up_layered_in(
+    machine_column: Column,
+    machine: &[u8],
+    correction_column: Column,
+    correction: &[u8],
+    id: u32,
+) -> Layered
+    ensures { λ r.
+        ⌜ layeredOf r
+        ≡ lookUpLayeredIn (now (machine .entry)) (columnOf «machine_column») (now (correction .entry)) (columnOf «correction_column») id ⌝ }
+{
+    layered::look_up_layered_in(machine_column, machine, correction_column, correction, id)
+}
+
+// Hands back the value section of whichever column holds the id, the correction's where both do, as a part of the lent bytes;
+// absent or refused, an empty part of the machine column.
+pub fn layered_values<'a>(machine: &'a [u8], correction: &'a [u8], id: u32) -> &'a [u8]
+    ensures { λ r.
+        ⌜ IsPart r (machine .entry) (correction .entry) (layeredPart editions (now (machine .entry)) (now (correction .entry)) id) ⌝ }
+{
+    layered::layered_values(machine, correction, id)
+}
+
+// The same part as numbers, for those who cannot take a reference.
+pub fn layered_part(machine: &[u8], correction: &[u8], id: u32) -> Part
+    ensures { λ r. ⌜ partOf r ≡ layeredPart editions (now (machine .entry)) (now (correction .entry)) id ⌝ }
+{
+    layered::layered_part(machine, correction, id)
 }

@@ -1,21 +1,25 @@
 -- What crosses the boundary, by the cases of the library's enums. Assumes nothing.
-use Rattle.format.specs.Kit.{_≡_, refl, sym, ap, ap₂, _∙_, Bool, true, false, ℕ, leb, pos}
-use Rattle.format.specs.Limits.{maxId}
+use Rattle.format.specs.Kit.{_≡_, sym, ap, ap₂, _∙_, false, and-false, List, none, ℕ, _+_, _<_, arith, leb, pos}
+use Rattle.format.specs.Limits.{maxId, maxWidth}
 use Rattle.format.specs.Refusals.{refused, need, HEADER, ID, BACK}
-use Rattle.format.specs.Walk.{FewWords}
-use Rattle.format.specs.Next.{lastAfter}
+use Rattle.format.specs.Editions.{plain, editions, editionIn}
+use Rattle.format.specs.Column.{Head}
+use Rattle.format.specs.Opening.{headOk}
+use Rattle.format.specs.LookUp.{lookUpIn}
+use Rattle.format.specs.Next.{nextIn}
 use Rattle.format.specs.Replies.{refusalNumber, refusalWith, replyOf, answerOf, candidateOf}
 use Rattle.format.specs.declared.Refusal.{Refusal}
 use Rattle.format.specs.declared.Reply.{Reply}
 use Rattle.format.specs.declared.Answer.{Answer}
 use Rattle.format.specs.declared.Candidate.{Candidate}
+use Rattle.format.proofs.Editions.{wide}
 use Rattle.column.specs.Opened.{openedOf}
 use Rattle.column.specs.declared.Opening.{Opening}
 use Rattle.signalfern_c.specs.declared.CReply.{CReply}
 use Rattle.signalfern_c.specs.declared.CAnswer.{CAnswer}
 use Rattle.signalfern_c.specs.declared.CColumn.{CColumn}
 use Rattle.signalfern_c.specs.declared.CCandidate.{CCandidate}
-use Rattle.signalfern_c.specs.Boundary.{replyC, answerC, columnC, unknownC, candidateC, unknownNextC}
+use Rattle.signalfern_c.specs.Boundary.{replyC, answerC, columnC, openedAs, openedC, candidateC}
 
 module _ (why : Refusal) (a b : ℕ) (ea : a ≡ refusalNumber why) (eb : b ≡ refusalWith why) where
   pub refused-reply : (r : Reply) → r ≡ Reply.Refused why → _≡_ {A = CReply} (record { refusal = a; number = b }) (replyC (replyOf r))
@@ -73,21 +77,17 @@ module _ (why : Refusal) (a b : ℕ) (ea : a ≡ refusalNumber why) (eb : b ≡ 
 
 -- ---- no edition
 
--- a refusal counts no words
-pub few-unknown : (p id : ℕ) → FewWords p (unknownC id)
-unfolding need
-few-unknown p id = go (leb id maxId)
-  where
-    go : (t : Bool) → FewWords p (need t ID 0 (refused HEADER 0))
-    go true = tt
-    go false = tt
+too-wide : (h : Head) → maxWidth < h .fields .width → headOk h ≡ false
+unfolding headOk
+too-wide h w = rw (wide (h .edition) (h .count) (h .fields) (h .valueBytes) w, and-false)
 
--- and keeps the cursor
-pub kept-unknown : (last t : ℕ) → lastAfter (unknownNextC last t) last t ≡ last
-unfolding need lastAfter
-kept-unknown last t = go (leb t maxId) (leb last t)
-  where
-    go : (a b : Bool) → lastAfter (need a ID 0 (need b BACK 0 (refused HEADER 0))) last t ≡ last
-    go true true = refl
-    go true false = refl
-    go false b = refl
+-- a column whose edition number is none is refused with HEADER, after ID and before anything else
+pub no-edition : (bytes : List ℕ) (c : CColumn) (id : ℕ) → editionIn editions (c .edition) ≡ none
+    → lookUpIn bytes (openedC c) id ≡ need (leb id maxId) ID 0 (refused HEADER 0)
+unfolding lookUpIn need
+no-edition bytes c id e = rw (e, too-wide (openedAs plain (maxWidth + 1) c .head) (omega arith))
+
+pub no-edition-next : (bytes : List ℕ) (c : CColumn) (last t : ℕ) → editionIn editions (c .edition) ≡ none
+    → nextIn bytes (openedC c) last t ≡ need (leb t maxId) ID 0 (need (leb last t) BACK 0 (refused HEADER 0))
+unfolding nextIn need
+no-edition-next bytes c last t e = rw (e, too-wide (openedAs plain (maxWidth + 1) c .head) (omega arith))

@@ -1,11 +1,11 @@
 -- What crosses the C boundary for each outcome of a call (include/signalfern.h says the same in words). Fields that a case leaves
 -- free hold 0. Assumes nothing.
-use Rattle.format.specs.Kit.{ℕ, List, Option, none, some, leb, pos}
-use Rattle.format.specs.Limits.{maxId}
-use Rattle.format.specs.Refusals.{Outcome, done, refused, need, HEADER, ID, BACK}
-use Rattle.format.specs.LookUp.{Look, found, absent, stepProbes, lookUpIn}
-use Rattle.format.specs.Next.{Candidate, candidateAt, noCandidate, nextIn, lastAfter}
-use Rattle.format.specs.Editions.{Edition, numberOf, editions, editionIn}
+use Rattle.format.specs.Kit.{ℕ, _+_, Option, none, some, pos}
+use Rattle.format.specs.Limits.{maxWidth}
+use Rattle.format.specs.Refusals.{Outcome, done, refused}
+use Rattle.format.specs.LookUp.{Look, found, absent}
+use Rattle.format.specs.Next.{Candidate, candidateAt, noCandidate, lastAfter}
+use Rattle.format.specs.Editions.{Edition, plain, numberOf, editions, editionIn}
 use Rattle.format.specs.Opening as Op
 use Rattle.signalfern_c.specs.declared.CReply.{CReply}
 use Rattle.signalfern_c.specs.declared.CAnswer.{CAnswer}
@@ -56,9 +56,9 @@ columnC (refused why w) =
       start = 0;
     }
 
--- a column handed in goes by its numbers alone
-abbrev pub openedAs : Edition → CColumn → Op.Opened
-openedAs ed c =
+-- a column handed in goes by its numbers alone: in this edition, with stored numbers of w bits
+abbrev pub openedAs : Edition → ℕ → CColumn → Op.Opened
+openedAs ed w c =
     record {
       head =
           record {
@@ -67,30 +67,19 @@ openedAs ed c =
             power = c .power;
             idBytes = c .«id_bytes»;
             jumpCount = c .«jump_count»;
-            fields = record { width = c .width; smallest = c .smallest; divisor = c .divisor };
+            fields = record { width = w; smallest = c .smallest; divisor = c .divisor };
             valueBytes = c .«value_bytes»;
           };
       start = c .start;
     }
 
--- and where its edition number is none, a header rule is broken
-abbrev pub unknownC : ℕ → Outcome Look
-unknownC id = need (leb id maxId) ID 0 (refused HEADER 0)
+-- where its edition number is none, a header rule is broken: no edition has this width (`no-edition` says what is answered then)
+abbrev pub openedBy : CColumn → Option Edition → Op.Opened
+openedBy c (some ed) = openedAs ed (c .width) c
+openedBy c none = openedAs plain (maxWidth + 1) c
 
-abbrev pub knownC : List ℕ → CColumn → ℕ → Option Edition → Outcome Look
-knownC bytes c id (some ed) = lookUpIn bytes (openedAs ed c) id
-knownC bytes c id none = unknownC id
-
-abbrev pub lookUpInC : List ℕ → CColumn → ℕ → Outcome Look
-lookUpInC bytes c id = knownC bytes c id (editionIn editions (c .edition))
-
--- the probes of that
-abbrev pub knownProbesC : List ℕ → CColumn → ℕ → Option Edition → ℕ
-knownProbesC bytes c id (some ed) = stepProbes bytes (openedAs ed c) id
-knownProbesC bytes c id none = 0
-
-abbrev pub probesInC : List ℕ → CColumn → ℕ → ℕ
-probesInC bytes c id = knownProbesC bytes c id (editionIn editions (c .edition))
+abbrev pub openedC : CColumn → Op.Opened
+openedC c = openedBy c (editionIn editions (c .edition))
 
 -- ---- document 02, [1]
 
@@ -102,14 +91,3 @@ candidateC (refused why w) last = record { kind = why; number = w; id = 0; ordin
 
 abbrev pub toldC : Outcome Candidate → ℕ → ℕ → CCandidate
 toldC o last t = candidateC o (lastAfter o last t)
-
--- where a column's edition number is none: 14, 16, then a header rule is broken
-abbrev pub unknownNextC : ℕ → ℕ → Outcome Candidate
-unknownNextC last t = need (leb t maxId) ID 0 (need (leb last t) BACK 0 (refused HEADER 0))
-
-abbrev pub knownNextC : List ℕ → CColumn → ℕ → ℕ → Option Edition → Outcome Candidate
-knownNextC bytes c last t (some ed) = nextIn bytes (openedAs ed c) last t
-knownNextC bytes c last t none = unknownNextC last t
-
-abbrev pub nextInC : List ℕ → CColumn → ℕ → ℕ → Outcome Candidate
-nextInC bytes c last t = knownNextC bytes c last t (editionIn editions (c .edition))

@@ -1,5 +1,5 @@
 // The library's calls for C: thin over crate signalfern, with structs returned by value, so that a refusal needs no lent slot.
-// include/signalfern.h declares them; a slice passes as a pointer and a length.
+// include/signalfern.h declares them; a slice passes as a pointer and a length. The calls on two columns stand in layers.rt.
 ghost use mathlib.Core.Path.{_≡_};
 ghost use Prim.Native.Nat.{ℕ};
 ghost use lib.ListN.{length};
@@ -9,13 +9,13 @@ ghost use Rattle.format.specs.Refusals.{done};
 ghost use Rattle.format.specs.Editions.{editions};
 ghost use Rattle.format.specs.Opening as Op;
 ghost use Rattle.format.specs.Opening.{openColumn};
-ghost use Rattle.format.specs.LookUp.{lookUp, lookUpProbes};
+ghost use Rattle.format.specs.LookUp.{stepProbes, lookUp, lookUpProbes, lookUpIn};
 ghost use Rattle.format.specs.Walk.{FewWords};
-ghost use Rattle.format.specs.Next.{next};
+ghost use Rattle.format.specs.Next.{next, nextIn};
 ghost use Rattle.format.specs.Replies.{replyOf, answerOf, candidateOf, Probed};
 ghost use Rattle.values.specs.Edition.{editionOf};
 ghost use Rattle.column.specs.Opened.{columnOf, openedOf};
-ghost use Rattle.signalfern_c.specs.Boundary.{replyC, answerC, columnC, openedAs, unknownC, lookUpInC, probesInC, candidateC, toldC, unknownNextC, nextInC};
+ghost use Rattle.signalfern_c.specs.Boundary.{replyC, answerC, columnC, openedAs, openedC, candidateC, toldC};
 use column::Column;
 use column::Head;
 use column::Known;
@@ -24,10 +24,11 @@ use format::Answer;
 use format::Candidate;
 use format::Cursor;
 use format::Next;
-use format::Refusal;
 use format::Reply;
 use values::Edition;
 use values::Fields;
+
+mod layers;
 
 // signalfern_reply
 #[repr(C)]
@@ -172,28 +173,6 @@ fn column_c(opened: Opening) -> CColumn
     }
 }
 
-// A column handed in goes by its numbers alone.
-fn column_of(edition: Edition, column: CColumn) -> Column
-    ensures { λ r. ⌜ columnOf r ≡ openedAs (editionOf edition) column ⌝ }
-{
-    Column {
-        head: Head {
-            edition,
-            count: column.count,
-            power: column.power,
-            id_bytes: column.id_bytes,
-            jump_count: column.jump_count,
-            fields: Fields {
-                width: column.width,
-                smallest: column.smallest,
-                divisor: column.divisor,
-            },
-            value_bytes: column.value_bytes,
-        },
-        start: column.start,
-    }
-}
-
 fn candidate_c(next: Next) -> CCandidate
     ensures { λ r. ⌜ r ≡ candidateC (candidateOf (next .candidate)) (next .cursor .last) ⌝ }
 {
@@ -284,26 +263,48 @@ pub extern "C" fn signalfern_open(bytes: &[u8]) -> CColumn
     column_c(opened)
 }
 
-// Where a column's edition number is none.
-fn no_edition(id: u32) -> Answer
-    ensures { λ r. ⌜ (answerOf r ≡ unknownC id) × (Probed 0 r) ⌝ }
+// An opened column with this edition, stored numbers of this width and else the numbers handed in.
+fn numbers_in(column: CColumn, edition: Edition, width: u64) -> Column
+    ensures { λ r. ⌜ columnOf r ≡ openedAs (editionOf edition) width column ⌝ }
 {
-    if column::id_ok(id) {
-        return Answer::Refused(Refusal::Header);
+    Column {
+        head: Head {
+            edition,
+            count: column.count,
+            power: column.power,
+            id_bytes: column.id_bytes,
+            jump_count: column.jump_count,
+            fields: Fields {
+                width,
+                smallest: column.smallest,
+                divisor: column.divisor,
+            },
+            value_bytes: column.value_bytes,
+        },
+        start: column.start,
     }
-    Answer::Refused(Refusal::Id)
+}
+
+// A width above every edition's.
+const TOO_WIDE: u64 = 65;
+
+// A column handed in: where its edition number is none, one that breaks a header rule. (Why by its width: docs/DECISIONS.md, "Speed".)
+fn column_in(column: CColumn) -> Column
+    ensures { λ r. ⌜ columnOf r ≡ openedC column ⌝ }
+{
+    let Known::Is(edition) = column::edition_in(column.edition) else {
+        return numbers_in(column, Edition::Plain, TOO_WIDE);
+    };
+    numbers_in(column, edition, column.width)
 }
 
 #[no_mangle]
 pub extern "C" fn signalfern_look_up_in(column: CColumn, bytes: &[u8], id: u32) -> CAnswer
-    ensures answers { λ r. ⌜ r ≡ answerC (probesInC (now (bytes .entry)) column id) (lookUpInC (now (bytes .entry)) column id) ⌝ }
-    ensures words { λ _. ⌜ FewWords (column .power) (lookUpInC (now (bytes .entry)) column id) ⌝ }
+    ensures answers { λ r.
+        ⌜ r ≡ answerC (stepProbes (now (bytes .entry)) (openedC column) id) (lookUpIn (now (bytes .entry)) (openedC column) id) ⌝ }
+    ensures words { λ _. ⌜ FewWords (openedC column .head .power) (lookUpIn (now (bytes .entry)) (openedC column) id) ⌝ }
 {
-    let Known::Is(edition) = column::edition_in(column.edition) else {
-        let answer = no_edition(id);
-        return answer_c(answer);
-    };
-    let answer = signalfern::look_up_in(column_of(edition, column), bytes, id);
+    let answer = signalfern::look_up_in(column_in(column), bytes, id);
     answer_c(answer)
 }
 
@@ -315,29 +316,6 @@ pub extern "C" fn signalfern_next(cursor: CCursor, bytes: &[u8], target: u32) ->
     candidate_c(next)
 }
 
-// Where a column's edition number is none: 14, 16, then 10. The cursor stays.
-fn no_edition_next(last: u32, target: u32) -> Next
-    ensures { λ r. ⌜ (candidateOf (r .candidate) ≡ unknownNextC last target) × (r .cursor .last ≡ last) ⌝ }
-{
-    let cursor = Cursor { last };
-    if !column::id_ok(target) {
-        return Next {
-            cursor,
-            candidate: Candidate::Refused(Refusal::Id),
-        };
-    }
-    if target < last {
-        return Next {
-            cursor,
-            candidate: Candidate::Refused(Refusal::Back),
-        };
-    }
-    Next {
-        cursor,
-        candidate: Candidate::Refused(Refusal::Header),
-    }
-}
-
 #[no_mangle]
 pub extern "C" fn signalfern_next_in(
     column: CColumn,
@@ -345,13 +323,9 @@ pub extern "C" fn signalfern_next_in(
     bytes: &[u8],
     target: u32,
 ) -> CCandidate
-    ensures { λ r. ⌜ r ≡ toldC (nextInC (now (bytes .entry)) column (cursor .last) target) (cursor .last) target ⌝ }
+    ensures { λ r. ⌜ r ≡ toldC (nextIn (now (bytes .entry)) (openedC column) (cursor .last) target) (cursor .last) target ⌝ }
 {
     let last = cursor.last;
-    let Known::Is(held) = column::edition_in(column.edition) else {
-        let next = no_edition_next(last, target);
-        return candidate_c(next);
-    };
-    let next = signalfern::next_in(column_of(held, column), Cursor { last }, bytes, target);
+    let next = signalfern::next_in(column_in(column), Cursor { last }, bytes, target);
     candidate_c(next)
 }

@@ -6,6 +6,7 @@
 
 mod calls;
 mod inputs;
+mod layered;
 mod measure;
 mod next;
 mod options;
@@ -44,6 +45,7 @@ fn run(options: &Options) -> Result<(), String> {
         Rows::Divisors => divisors(effort),
         Rows::Counts => counts(effort),
         Rows::Next => next::table(effort),
+        Rows::Layered => layered::table(effort),
     };
     table.print(options.before.as_ref());
     let mut times = Times::default();

@@ -43,6 +43,8 @@ pub enum Rows {
     Counts,
     /// The next candidate, beside what else gives the same.
     Next,
+    /// The look-up with a correction on top, beside those that it is made of.
+    Layered,
 }
 
 /// What stood on the command line.
@@ -77,6 +79,7 @@ impl Options {
                 "--divisors" => options.rows = Rows::Divisors,
                 "--counts" => options.rows = Rows::Counts,
                 "--next" => options.rows = Rows::Next,
+                "--layered" => options.rows = Rows::Layered,
                 "--plot" => options.plot = Some(value()?.into()),
                 "--save" => options.save = Some(value()?.into()),
                 "--beside" => options.before = Some(Times::read(value()?.as_ref())?),
@@ -88,10 +91,11 @@ impl Options {
 }
 
 const USAGE: &str = "cargo bench --bench columns -- [--widths | --divisors | --counts | --next | \
---plot FILE.svg] [--save FILE] [--beside FILE]
+--layered | --plot FILE.svg] [--save FILE] [--beside FILE]
   --widths       the calls at each width of stored numbers in place of each kind of block
   --divisors     the calls on values with large and small divisors
   --counts       look-ups alone, in blocks of few ids to many
   --next         the next candidate, beside the look-up, the reading and the reference
+  --layered      the look-up with a correction on top, beside the look-ups that it is made of
   --plot FILE    how look-up, check and reading grow with the pairs and with the bytes, drawn
   --save FILE    keep the times; --beside FILE sets such times, of another revision, beside these";

@@ -7,12 +7,16 @@
 
 mod header;
 mod ids;
+mod layered;
 mod look_up;
 mod next;
 mod sparse;
 mod values;
 
 pub use header::{open, Column};
+pub use layered::{
+    layered_values, look_up_layered, look_up_layered_in, Layer, LayeredAnswer, LayeredLook,
+};
 pub use look_up::{look_up, look_up_in};
 pub use next::{next, next_by_each_id, next_in, next_listed, Candidate, Next};
 pub use sparse::{halve, scan};

@@ -2,6 +2,7 @@
 //! the pair list itself.
 
 mod divisor;
+mod layered;
 mod next;
 
 use std::collections::BTreeMap;

@@ -3,6 +3,8 @@
 #![allow(dead_code, reason = "no test uses all of it")]
 
 pub mod damage;
+pub mod layers;
+pub mod listed;
 pub mod parts;
 pub mod same;
 pub mod tool;

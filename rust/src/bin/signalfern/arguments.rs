@@ -4,10 +4,11 @@ use std::ffi::{OsStr, OsString};
 use std::os::unix::ffi::OsStrExt;
 use std::path::PathBuf;
 
+use crate::command::{Choice, Command};
 use crate::failure::Failure;
 use crate::nearest::did_you_mean;
-use crate::table::{Choice, Command};
-use crate::text::quoted;
+use crate::pairs::{parse_id, Wrong};
+use crate::text::{cut, quoted};
 
 /// What stood on the command line.
 pub struct Arguments {
@@ -157,6 +158,21 @@ impl Arguments {
         self.next()
             .map(PathBuf::from)
             .ok_or_else(|| command.usage(format!("no {what} is named")))
+    }
+
+    /// The last plain word, which must be an id: as it was typed, and its number.
+    pub fn last_id(&mut self) -> Result<(String, u32), Failure> {
+        let Some(word) = self.next() else {
+            return Err(self.usage("no id is named"));
+        };
+        self.finish()?;
+        let id = match parse_id(word.as_bytes()) {
+            Ok(id) => id,
+            // A number of more than 32 bits is above the limit as the greatest of them is.
+            Err(Wrong::TooGreat(_)) => u32::MAX,
+            Err(Wrong::Text(wrong)) => return Err(self.usage(wrong)),
+        };
+        Ok((cut(word.as_bytes()), id))
     }
 
     /// Refuses words that are left over.

@@ -1,6 +1,11 @@
-//! The opened column of the package: the one place where the tool uses it.
+//! The opened columns of the package: the one place where the tool uses them.
 
-use signalfern::{Answer, Candidates, Column, Refusal};
+use signalfern::{
+    Answer, Candidates, Column, Layer, Layered, LayeredAnswer, LayeredRefusal, Refusal,
+};
+
+use crate::failure::Failure;
+use crate::load::Loaded;
 
 /// A column to be asked for many ids.
 pub struct Asked<'a>(Column<'a>);
@@ -10,12 +15,40 @@ impl<'a> Asked<'a> {
         Column::open(bytes).map(Self)
     }
 
+    /// The column of a file.
+    pub fn of(loaded: &'a Loaded) -> Result<Self, Failure> {
+        Self::open(&loaded.bytes).map_err(|refusal| Failure::refused(&loaded.name, refusal))
+    }
+
     pub fn look_up(&self, id: u32) -> Result<Answer, Refusal> {
         self.0.look_up(id)
     }
 
     pub fn candidates_from(&self, id: u32) -> Candidates<'a> {
         self.0.candidates_from(id)
+    }
+
+    /// This column with a correction on top.
+    pub fn under(&self, correction: &Self) -> Corrected<'a> {
+        Corrected(Layered::new(self.0, correction.0))
+    }
+}
+
+/// A machine column with a correction on top.
+pub struct Corrected<'a>(Layered<'a>);
+
+impl<'a> Corrected<'a> {
+    pub fn look_up(&self, id: u32) -> Result<LayeredAnswer, LayeredRefusal> {
+        self.0.look_up(id)
+    }
+
+    /// The part of a file that holds the values among which the id's is.
+    pub fn values_of(&self, id: u32) -> &'a [u8] {
+        self.0.values_of(id)
+    }
+
+    pub fn column(&self, layer: Layer) -> Column<'a> {
+        self.0.column(layer)
     }
 }
 

@@ -2,7 +2,8 @@
 
 use std::fmt::Write;
 
-use crate::table::{Choice, Command, Value, COMMANDS};
+use crate::command::{Choice, Command, Value};
+use crate::table::COMMANDS;
 
 // Writing to a string cannot fail, so the results below are dropped.
 

@@ -11,6 +11,15 @@ use crate::failure::Failure;
 use crate::output::{print, Output};
 use crate::text::named;
 
+/// What it leaves in its folder.
+const FILES: [&str; 5] = [
+    "scores.txt",
+    "scores.column",
+    "again.txt",
+    "correction.txt",
+    "correction.column",
+];
+
 pub fn run(mut arguments: Arguments) -> Result<(), Failure> {
     let folder = arguments.next().map(PathBuf::from);
     arguments.finish()?;
@@ -20,30 +29,46 @@ pub fn run(mut arguments: Arguments) -> Result<(), Failure> {
             .map_err(|error| Failure::file("make", &folder, &error))?,
         None => new_folder()?,
     };
-    let [list, column, again] =
-        ["scores.txt", "scores.column", "again.txt"].map(|name| folder.join(name));
-    for path in [&list, &column, &again] {
+    let files = FILES.map(|name| folder.join(name));
+    for path in &files {
         if fs::symlink_metadata(path).is_ok() {
             let message = format!("{} is there already, and is not replaced", named(path));
             return Err(Failure::Trouble(message));
         }
     }
-    Output::open(&list, false, &[])?.fill(write_scores)?;
-    step(&["write".as_ref(), &list, "-o".as_ref(), &column])?;
-    step(&["check".as_ref(), &column])?;
-    step(&["read".as_ref(), &column, "-o".as_ref(), &again])?;
-    let read = |path: &Path| fs::read(path).map_err(|error| Failure::file("read", path, &error));
-    if read(&list)? != read(&again)? {
-        let message = "the pairs read are not those written";
-        return Err(Failure::Trouble(message.to_string()));
-    }
-    print("the same lines as at first\n")?;
+    let [list, column, again, fixes, correction] = &files;
+    there_and_back(list, column, again)?;
     let ids = ["7", "8", "70001", "200000", "2147352575"].map(Path::new);
     step(&[&["look-up".as_ref(), column.as_path()], &ids[..]].concat())?;
     let from = ["60000", "--count", "3"].map(Path::new);
     step(&[&["next".as_ref(), column.as_path()], &from[..]].concat())?;
-    step(&["show".as_ref(), &column])?;
+    corrected(column, fixes, correction)?;
+    step(&["show".as_ref(), column])?;
     print(&format!("\nThe files are in {}\n", named(&folder)))
+}
+
+/// The scores are written, checked and read.
+fn there_and_back(list: &Path, column: &Path, again: &Path) -> Result<(), Failure> {
+    Output::open(list, false, &[])?.fill(write_scores)?;
+    step(&["write".as_ref(), list, "-o".as_ref(), column])?;
+    step(&["check".as_ref(), column])?;
+    step(&["read".as_ref(), column, "-o".as_ref(), again])?;
+    let read = |path: &Path| fs::read(path).map_err(|error| Failure::file("read", path, &error));
+    if read(list)? != read(again)? {
+        let message = "the pairs read are not those written";
+        return Err(Failure::Trouble(message.to_string()));
+    }
+    print("the same lines as at first\n")
+}
+
+/// A correction is laid on top: another score for 7, and one for 70000, which had none.
+fn corrected(column: &Path, fixes: &Path, correction: &Path) -> Result<(), Failure> {
+    Output::open(fixes, false, &[])?.fill(|out| out.write_all(b"7 200\n70000 90\n"))?;
+    step(&["write".as_ref(), fixes, "-o".as_ref(), correction])?;
+    let ids = ["7", "70000", "70001"].map(Path::new);
+    let layers = [column, "--correction".as_ref(), correction];
+    step(&[&["look-up".as_ref()], &layers[..], &ids].concat())?;
+    step(&[&["audit".as_ref()], &layers[..], &ids[..1]].concat())
 }
 
 /// A folder of our own among the temporary files, where others may make folders too.

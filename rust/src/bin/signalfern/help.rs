@@ -4,12 +4,13 @@ use std::fmt::Write;
 use std::os::unix::ffi::OsStrExt;
 
 use crate::arguments::Arguments;
+use crate::command::{Choice, Command};
 use crate::completions;
 use crate::failure::Failure;
 use crate::man;
 use crate::nearest::did_you_mean;
 use crate::output::print;
-use crate::table::{Choice, Command, ABOUT, COMMANDS, INTRODUCTION, STANDARD, STATUS};
+use crate::table::{ABOUT, COMMANDS, INTRODUCTION, STANDARD, STATUS};
 use crate::text::{quoted, wrapped};
 
 /// Columns of a line.

@@ -5,7 +5,7 @@ use std::path::Path;
 use signalfern::Refusal;
 
 use crate::column::judge_header;
-use crate::failure::Failure;
+use crate::failure::{complain, Failure};
 use crate::header::{Header, LONGEST};
 use crate::input::Input;
 use crate::memory;
@@ -31,6 +31,19 @@ impl Loaded {
     pub fn open(path: &Path) -> Result<Self, Failure> {
         let mut loaded = Self::start(path)?;
         loaded.finish()?;
+        Ok(loaded)
+    }
+
+    /// Opens a file that is to be asked, and checks it; unchecked, it says so.
+    pub fn to_ask(path: &Path, unchecked: bool) -> Result<Self, Failure> {
+        let loaded = Self::open(path)?;
+        if unchecked {
+            loaded.opened()?;
+            let warning = "is not checked: if it is damaged, answers may be wrong";
+            complain(format!("{} {warning}", loaded.name));
+        } else {
+            loaded.checked()?;
+        }
         Ok(loaded)
     }
 

@@ -3,12 +3,13 @@
 use std::ffi::OsString;
 use std::io::{self, Write};
 use std::os::unix::ffi::OsStrExt;
+use std::path::PathBuf;
 
-use signalfern::{Answer, Refusal};
+use signalfern::{Answer, Layer, LayeredAnswer, Refusal};
 
 use crate::arguments::Arguments;
-use crate::column::Asked;
-use crate::failure::{complain, Failure, REFUSED};
+use crate::column::{Asked, Corrected};
+use crate::failure::{Failure, REFUSED};
 use crate::input::Input;
 use crate::lines::{Line, Lines};
 use crate::load::Loaded;
@@ -29,23 +30,31 @@ pub fn run(mut arguments: Arguments) -> Result<(), Failure> {
     if words.is_empty() && list.is_none() {
         return Err(arguments.usage("no id is named"));
     }
-    if is_standard(&path) && list.as_deref().is_some_and(is_standard) {
-        return Err(arguments.usage("column and ids cannot both come from standard input"));
+    let correction = arguments.path("correction");
+    let files = [Some(&path), correction.as_ref(), list.as_ref()];
+    if files
+        .into_iter()
+        .flatten()
+        .filter(|it| is_standard(it))
+        .count()
+        > 1
+    {
+        return Err(arguments.usage("only one file can come from standard input"));
     }
     let list = list.map(|list| Input::open(&list)).transpose()?;
 
-    let loaded = Loaded::open(&path)?;
-    if arguments.has("unchecked") {
-        loaded.opened()?;
-        let warning = "is not checked: if it is damaged, answers may be wrong";
-        complain(format!("{} {warning}", loaded.name));
-    } else {
-        loaded.checked()?;
-    }
-    let asked = Asked::open(&loaded.bytes).map_err(|it| Failure::refused(&loaded.name, it))?;
+    let load = |path: &PathBuf| Loaded::to_ask(path, arguments.has("unchecked"));
+    let loaded = load(&path)?;
+    let correction = correction.as_ref().map(load).transpose()?;
+    let asked = Asked::of(&loaded)?;
+    let source = match &correction {
+        None => Source::Column(asked),
+        Some(correction) => Source::Corrected(asked.under(&Asked::of(correction)?)),
+    };
     let mut asking = Asking {
-        asked,
+        source,
         name: &loaded.name,
+        correction: correction.as_ref().map_or("", |it| &it.name),
         refused: false,
     };
     match asking.all(&words, list) {
@@ -55,9 +64,32 @@ pub fn run(mut arguments: Arguments) -> Result<(), Failure> {
     }
 }
 
+/// What is asked: a column, or one with a correction on top.
+enum Source<'a> {
+    Column(Asked<'a>),
+    Corrected(Corrected<'a>),
+}
+
+impl Source<'_> {
+    /// The line about an id, or the column that refused and why.
+    fn line(&self, id: u32) -> Result<String, (Layer, Refusal)> {
+        match self {
+            Self::Column(asked) => match asked.look_up(id) {
+                Ok(answer) => Ok(line(id, answer)),
+                Err(refusal) => Err((Layer::Machine, refusal)),
+            },
+            Self::Corrected(layers) => match layers.look_up(id) {
+                Ok(answer) => Ok(corrected_line(id, answer)),
+                Err(refused) => Err((refused.layer, refused.refusal)),
+            },
+        }
+    }
+}
+
 struct Asking<'a> {
-    asked: Asked<'a>,
+    source: Source<'a>,
     name: &'a str,
+    correction: &'a str,
     /// Whether an id was refused. The others get their answers all the same.
     refused: bool,
 }
@@ -116,19 +148,13 @@ impl Asking<'_> {
                 return Ok(());
             }
         };
-        match self.asked.look_up(id) {
-            Ok(answer) => return write_answer(out, id, answer),
-            Err(refusal @ Refusal::Id) => {
-                let word = cut(word);
-                self.refuse(&Failure::refused(format!("{place}: id {word}"), refusal));
-            }
-            Err(refusal) => {
-                self.refuse(&Failure::refused(
-                    format!("{}: id {id}", self.name),
-                    refusal,
-                ));
-            }
-        }
+        let what = match self.source.line(id) {
+            Ok(line) => return out.write_all(line.as_bytes()),
+            Err((_, refusal @ Refusal::Id)) => (format!("{place}: id {}", cut(word)), refusal),
+            Err((Layer::Machine, refusal)) => (format!("{}: id {id}", self.name), refusal),
+            Err((Layer::Correction, refusal)) => (format!("{}: id {id}", self.correction), refusal),
+        };
+        self.refuse(&Failure::refused(what.0, what.1));
         Ok(())
     }
 
@@ -138,20 +164,24 @@ impl Asking<'_> {
     }
 }
 
-fn write_answer(out: &mut dyn Write, id: u32, answer: Answer) -> io::Result<()> {
+fn line(id: u32, answer: Answer) -> String {
+    let cost = format!("words {} probes {}", answer.words(), answer.probes());
     match answer {
-        Answer::Found {
+        Answer::Found { ordinal, value, .. } => format!("{id} {value} ordinal {ordinal} {cost}\n"),
+        Answer::Absent { .. } => format!("{id} absent {cost}\n"),
+    }
+}
+
+fn corrected_line(id: u32, answer: LayeredAnswer) -> String {
+    let words = [Layer::Machine, Layer::Correction].map(|layer| answer.words(layer));
+    let cost = format!("words machine {} correction {}", words[0], words[1]);
+    match answer {
+        LayeredAnswer::Found {
+            layer,
             ordinal,
             value,
-            words,
-            probes,
             ..
-        } => writeln!(
-            out,
-            "{id} {value} ordinal {ordinal} words {words} probes {probes}"
-        ),
-        Answer::Absent { words, probes, .. } => {
-            writeln!(out, "{id} absent words {words} probes {probes}")
-        }
+        } => format!("{id} {value} by {layer} ordinal {ordinal} {cost}\n"),
+        LayeredAnswer::Absent { .. } => format!("{id} absent {cost}\n"),
     }
 }

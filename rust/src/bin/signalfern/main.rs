@@ -1,16 +1,18 @@
 //! The tool `signalfern`: writes, checks, reads, asks and shows score columns.
 //!
-//! `table` holds the commands and options; the parser (`arguments`), `help`, `man` and `completions`
+//! `table` holds the commands and options (`command`); the parser (`arguments`), `help`, `man` and `completions`
 //! are made from it. A command has a module of its own name. Below them: `input`, `lines`, `pairs` and
 //! `load` read; `output`, `temporary`, `printing` and `range` write; `column` is the one place that
 //! uses the package's opened column; `header` and `blocks` take bytes apart for `show` and for
 //! `diagnosis`, which explain a file and never judge it; all `unsafe` is in `system`.
 
 mod arguments;
+mod audit;
 mod blocks;
 mod causes;
 mod check;
 mod column;
+mod command;
 mod completions;
 mod demo;
 mod diagnosis;

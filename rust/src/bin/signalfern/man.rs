@@ -2,8 +2,9 @@
 
 use std::fmt::Write;
 
+use crate::command::Command;
 use crate::help::spelled;
-use crate::table::{Command, ABOUT, COMMANDS, INTRODUCTION, SOUND, STANDARD, STATUS};
+use crate::table::{ABOUT, COMMANDS, INTRODUCTION, SOUND, STANDARD, STATUS};
 
 // Writing to a string cannot fail, so the results below are dropped.
 

@@ -2,7 +2,6 @@
 
 use std::io::{self, Write};
 use std::num::NonZeroU64;
-use std::os::unix::ffi::OsStrExt;
 
 use signalfern::{Candidate, Refusal};
 
@@ -12,26 +11,13 @@ use crate::failure::Failure;
 use crate::json::Object;
 use crate::load::Loaded;
 use crate::output::print_with;
-use crate::pairs::{parse_id, Wrong};
-use crate::text::cut;
 
 pub fn run(mut arguments: Arguments) -> Result<(), Failure> {
     let count = arguments.number("count", "count of ids")?;
     let path = arguments.file("column")?;
-    let Some(word) = arguments.next() else {
-        return Err(arguments.usage("no id is named"));
-    };
-    arguments.finish()?;
-    let first = match parse_id(word.as_bytes()) {
-        Ok(id) => id,
-        // A number of more than 32 bits is above the limit as the greatest of them is.
-        Err(Wrong::TooGreat(_)) => u32::MAX,
-        Err(Wrong::Text(wrong)) => return Err(arguments.usage(wrong)),
-    };
-
-    let loaded = Loaded::open(&path)?;
-    loaded.checked()?;
-    let asked = Asked::open(&loaded.bytes).map_err(|it| Failure::refused(&loaded.name, it))?;
+    let (word, first) = arguments.last_id()?;
+    let loaded = Loaded::to_ask(&path, false)?;
+    let asked = Asked::of(&loaded)?;
     let line = if arguments.has("json") { json } else { text };
     let mut refused = None;
     print_with(|out| {
@@ -40,9 +26,8 @@ pub fn run(mut arguments: Arguments) -> Result<(), Failure> {
         Ok(())
     })?;
     refused.map_or(Ok(()), |refusal| {
-        let id = cut(word.as_bytes());
         Err(Failure::refused(
-            format!("{}: id {id}", loaded.name),
+            format!("{}: id {word}", loaded.name),
             refusal,
         ))
     })

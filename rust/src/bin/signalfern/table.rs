@@ -1,65 +1,8 @@
 //! The commands and their options, written once: the parser, the help, the man page and the shell
 //! completions are all made from this table.
 
-use crate::arguments::Arguments;
-use crate::failure::Failure;
-use crate::{check, demo, help, look_up, next, read, show, write};
-
-/// One command of the tool.
-pub struct Command {
-    pub name: &'static str,
-    /// What may follow the name, for a person.
-    pub words: &'static str,
-    /// Half a line that says what it does.
-    pub summary: &'static str,
-    /// Paragraphs; those that start with a space are shown as they are.
-    pub text: &'static [&'static str],
-    pub options: &'static [Choice],
-    /// What its plain words are, for completions.
-    pub operands: Value,
-    pub run: fn(Arguments) -> Result<(), Failure>,
-}
-
-/// One option of a command.
-pub struct Choice {
-    pub short: Option<char>,
-    pub long: &'static str,
-    /// The name and the kind of its value, if it takes one.
-    pub value: Option<(&'static str, Value)>,
-    pub help: &'static str,
-}
-
-/// What may stand in a place of the command line.
-#[derive(Clone, Copy)]
-pub enum Value {
-    File,
-    Folder,
-    Other,
-    OneOf(&'static [&'static str]),
-}
-
-const fn flag(short: Option<char>, long: &'static str, help: &'static str) -> Choice {
-    Choice {
-        short,
-        long,
-        value: None,
-        help,
-    }
-}
-
-const fn option(
-    short: Option<char>,
-    long: &'static str,
-    value: (&'static str, Value),
-    help: &'static str,
-) -> Choice {
-    Choice {
-        short,
-        long,
-        value: Some(value),
-        help,
-    }
-}
+use crate::command::{flag, option, Choice, Command, Value};
+use crate::{audit, check, demo, help, look_up, next, read, show, write};
 
 /// What the tool is, above the list of commands.
 pub const ABOUT: &str = "score columns, by proved calls";
@@ -80,7 +23,7 @@ bit, as the writer would give it. It does not mean that nobody changed a score: 
 checksum, and most changes of a stored value give another sound column. To know that a file is the \
 one that was written, compare its SHA-256 digest: --digest, or a file COLUMN.sha256 beside it.";
 
-pub static COMMANDS: &[Command] = &[WRITE, CHECK, READ, LOOK_UP, NEXT, SHOW, DEMO, HELP];
+pub static COMMANDS: &[Command] = &[WRITE, CHECK, READ, LOOK_UP, NEXT, AUDIT, SHOW, DEMO, HELP];
 
 const WRITE: Command = Command {
     name: "write",
@@ -184,17 +127,28 @@ const READ: Command = Command {
     run: read::run,
 };
 
+const CORRECTION: Choice = option(
+    Some('c'),
+    "correction",
+    ("FILE", Value::File),
+    "a column that lies on top of COLUMN: its values are preferred",
+);
+
 const LOOK_UP: Command = Command {
     name: "look-up",
-    words: "COLUMN [ID...] [--ids FILE] [--unchecked]",
+    words: "COLUMN [ID...] [--correction FILE] [--ids FILE] [--unchecked]",
     summary: "ask for single ids",
     text: &[
         "Asks a column for single ids. One line for each: the id, then its value and its ordinal \
          (how many ids lie below it), or `absent`; then the bitmap words that were counted and the \
          entries of a sparse block that were probed.",
-        "The column is checked first: a damaged one could give a wrong value.",
+        "With --correction a second column lies on top: it answers for the ids that it holds, and \
+         COLUMN for all others. A line then names the column that spoke, `by correction` or `by \
+         machine`, whose ordinal it is, and has the words of each; probes are not told.",
+        "The column is checked first, and so is a correction: a damaged one could give a wrong value.",
     ],
     options: &[
+        CORRECTION,
         option(
             Some('i'),
             "ids",
@@ -237,6 +191,21 @@ const NEXT: Command = Command {
     ],
     operands: Value::File,
     run: next::run,
+};
+
+const AUDIT: Command = Command {
+    name: "audit",
+    words: "COLUMN ID --correction FILE",
+    summary: "the bytes that hold the value of an id",
+    text: &[
+        "Tells which column speaks for an id, the correction or COLUMN, and shows the bytes of it that \
+         hold the value: where they stand in the file, in hexadecimal, and bit by bit, with the bits \
+         of this value between [ and ].",
+        "Both columns are checked first.",
+    ],
+    options: &[CORRECTION],
+    operands: Value::File,
+    run: audit::run,
 };
 
 const SHOW: Command = Command {
@@ -287,7 +256,7 @@ const HELP: Command = Command {
         ),
     ],
     operands: Value::OneOf(&[
-        "write", "check", "read", "look-up", "next", "show", "demo", "help",
+        "write", "check", "read", "look-up", "next", "audit", "show", "demo", "help",
     ]),
     run: help::run,
 };

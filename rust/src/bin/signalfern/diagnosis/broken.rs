@@ -3,7 +3,7 @@
 
 use super::{Broken, Diagnosis};
 use crate::header::{Unreadable, NAMES};
-use crate::text::counted;
+use crate::text::{byte_at, counted};
 
 /// Bytes shown before a place and after it.
 const AROUND: usize = 8;
@@ -16,7 +16,7 @@ pub fn cut_off(bytes: &[u8], count: usize, unreadable: &Unreadable) -> Diagnosis
     let mut lines = vec![match count {
         0 => format!("the file is empty: 0 bytes, and {titled}, is missing"),
         _ if count == at => format!("{has} before {titled}"),
-        _ => format!("{has} within {titled}, which starts at {}", placed(at)),
+        _ => format!("{has} within {titled}, which starts at {}", byte_at(at)),
     }];
     lines.extend((count > 0).then(|| ending(bytes)));
     let advice = "take the file again from where it was written, and compare the lengths by ls -l";
@@ -28,8 +28,8 @@ pub fn cut_off(bytes: &[u8], count: usize, unreadable: &Unreadable) -> Diagnosis
 
 /// NUMBER: the first bytes of a file, or all, and the place of the byte that decided it.
 pub fn bad_byte(bytes: &[u8], place: usize, unreadable: &Unreadable) -> Diagnosis {
-    let (titled, at) = (titled(unreadable), placed(unreadable.at));
-    let bad = placed(place);
+    let (titled, at) = (titled(unreadable), byte_at(unreadable.at));
+    let bad = byte_at(place);
     let found = format!("the bad byte is {bad}, counted from 0, in {titled}, which starts at {at}");
     let why = match bytes.get(place).copied().unwrap_or_default() {
         0 => "it is 00 and ends a number of several bytes, which is then not in its shortest form"
@@ -62,10 +62,6 @@ fn broken(key: &'static str, number: usize, unreadable: &Unreadable) -> Broken {
 fn titled(unreadable: &Unreadable) -> String {
     let (name, which) = (NAMES[unreadable.index], unreadable.index + 1);
     format!("{name}, header number {which} of {}", NAMES.len())
-}
-
-fn placed(place: usize) -> String {
-    format!("byte {place} (0x{place:X})")
 }
 
 /// The last bytes of a file.

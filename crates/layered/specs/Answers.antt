@@ -1,0 +1,28 @@
+-- The code's layered answers as `format`'s. Assumes nothing.
+use Rattle.format.specs.Refusals.{Outcome}
+use Rattle.format.specs.Replies.{refusalNumber, refusalWith}
+use Rattle.format.specs.LookUp.{Look}
+use Rattle.format.specs.Layered as Ld
+use Rattle.layered.specs.declared.Layer as La
+use Rattle.layered.specs.declared.Layered as Ly
+use Rattle.layered.specs.declared.Part.{Part}
+use Rattle.layered.specs.declared.Top as To
+
+abbrev pub layerOf : La.Layer → Ld.Layer
+layerOf La.Layer.Machine = Ld.machine
+layerOf La.Layer.Correction = Ld.correction
+
+abbrev pub layeredOf : Ly.Layered → Ld.LayeredLook
+layeredOf (Ly.Layered.Found layer o v w k) = Ld.foundIn (layerOf layer) o v w k
+layeredOf (Ly.Layered.Absent w k) = Ld.absentIn w k
+layeredOf (Ly.Layered.Refused layer why) = Ld.refusedBy (layerOf layer) (refusalNumber why) (refusalWith why)
+
+abbrev pub partOf : Part → Ld.Part
+partOf p = Ld.part (layerOf (p .layer)) (p .start) (p .len)
+
+-- ---- on the way
+
+-- what the correction's answer comes to with the machine column's
+abbrev pub topOf : To.Top → Outcome Look → Ld.LayeredLook
+topOf (To.Top.Settled answer) below = layeredOf answer
+topOf (To.Top.Absent k) below = Ld.underneath k below

@@ -1,0 +1,2 @@
+-- What the code's layered answers stand for.
+pub mod Answers

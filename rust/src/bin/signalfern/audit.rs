@@ -1,0 +1,139 @@
+//! audit: the bytes that hold the value of an id.
+
+use std::fmt::Write;
+use std::ops::Range;
+
+use signalfern::{Column, Layer, LayeredAnswer, Refusal};
+
+use crate::arguments::Arguments;
+use crate::column::Asked;
+use crate::failure::Failure;
+use crate::load::Loaded;
+use crate::output::print;
+use crate::text::{byte_at, counted, is_standard};
+
+pub fn run(mut arguments: Arguments) -> Result<(), Failure> {
+    let path = arguments.file("column")?;
+    let (word, id) = arguments.last_id()?;
+    let Some(correction) = arguments.path("correction") else {
+        return Err(arguments.usage("no correction is named: --correction FILE"));
+    };
+    if is_standard(&path) && is_standard(&correction) {
+        return Err(arguments.usage("only one file can come from standard input"));
+    }
+    let machine = Loaded::to_ask(&path, false)?;
+    let correction = Loaded::to_ask(&correction, false)?;
+    let layers = Asked::of(&machine)?.under(&Asked::of(&correction)?);
+    let name = |layer| match layer {
+        Layer::Machine => &machine.name,
+        Layer::Correction => &correction.name,
+    };
+    match layers.look_up(id) {
+        Ok(LayeredAnswer::Found {
+            layer,
+            ordinal,
+            value,
+            ..
+        }) => {
+            let stored = Stored::new(layers.column(layer), layers.values_of(id), ordinal);
+            let by = format!("by the {layer} column {}", name(layer));
+            print(&format!(
+                "id {id}: value {value}, ordinal {ordinal}, {by}\n{}",
+                stored
+                    .lines(value)
+                    .ok_or_else(|| no_such_value(name(layer), value))?
+            ))
+        }
+        Ok(LayeredAnswer::Absent { .. }) => print(&format!("id {id}: in neither column\n")),
+        // Of an id above the limit neither column knows anything.
+        Err(it) if it.refusal == Refusal::Id => Err(refused(&machine.name, &word, it.refusal)),
+        Err(it) => Err(refused(name(it.layer), &word, it.refusal)),
+    }
+}
+
+fn refused(name: &str, word: &str, refusal: Refusal) -> Failure {
+    Failure::refused(format!("{name}: id {word}"), refusal)
+}
+
+fn no_such_value(name: &str, value: i64) -> Failure {
+    Failure::Trouble(format!("{name}: the bytes do not give the value {value}"))
+}
+
+/// A stored number, and the value section that it stands in.
+struct Stored<'a> {
+    column: Column<'a>,
+    section: &'a [u8],
+    /// Where the section stands in the file.
+    start: usize,
+    ordinal: u64,
+    /// Its bits, counted from the section's first.
+    bits: Range<usize>,
+}
+
+impl<'a> Stored<'a> {
+    fn new(column: Column<'a>, section: &'a [u8], ordinal: u64) -> Self {
+        let width = column.width() as usize;
+        let first = ordinal as usize * width;
+        Self {
+            column,
+            section,
+            start: section.as_ptr() as usize - column.bytes().as_ptr() as usize,
+            ordinal,
+            bits: first..first + width,
+        }
+    }
+
+    /// The lines about it; none if its bits do not give the value.
+    fn lines(&self, value: i64) -> Option<String> {
+        let (smallest, divisor) = (self.column.smallest(), self.column.divisor());
+        let number = self.number();
+        let sum = i128::from(smallest) + i128::from(divisor) * i128::from(number);
+        if sum != i128::from(value) {
+            return None;
+        }
+        if self.bits.is_empty() {
+            return Some(format!("  no bits are stored: every value is {value}\n"));
+        }
+        let bytes = counted(self.section.len() as u64, "byte");
+        let bits = counted(self.bits.len() as u64, "bit");
+        let (ordinal, first) = (self.ordinal, self.bits.start);
+        let mut out = format!(
+            "  value section: {bytes}, from {} on\n  stored number {ordinal}: {number}, in {bits} from \
+             bit {first} of the section on; {smallest} + {divisor} * {number} = {value}\n",
+            byte_at(self.start)
+        );
+        for at in first / 8..=(self.bits.end - 1) / 8 {
+            let (place, byte) = (byte_at(self.start + at), self.section[at]);
+            // Writing to a string cannot fail.
+            let _ = writeln!(out, "  {place}: {byte:02X}  {}", self.marked(at));
+        }
+        Some(out)
+    }
+
+    /// The number that its bits make, the high bit first.
+    fn number(&self) -> u64 {
+        let bits = self.bits.clone();
+        bits.fold(0, |number, bit| number << 1 | u64::from(self.bit(bit)))
+    }
+
+    fn bit(&self, bit: usize) -> bool {
+        self.section[bit / 8] >> (7 - bit % 8) & 1 == 1
+    }
+
+    /// The bits of a byte of the section, those of this number between [ and ].
+    fn marked(&self, at: usize) -> String {
+        let byte = 8 * at..8 * at + 8;
+        let own = self.bits.start.max(byte.start)..self.bits.end.min(byte.end);
+        let mut out = String::new();
+        for bit in byte {
+            if bit == own.start {
+                out.push('[');
+            }
+            out.push(if self.bit(bit) { '1' } else { '0' });
+            if bit + 1 == own.end {
+                out.push(']');
+            }
+        }
+        out
+    }
+}
