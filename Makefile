@@ -43,6 +43,7 @@ ARCHIVE = $(SIGNALFERN_LIB_DIR)/libsignalfern_c.a
 else
 ARCHIVE = target/staticlib/libsignalfern_c.a
 $(ARCHIVE): crates.txt $(shell find crates -name '*.rt' -o -name '*.antt')
+	rt check signalfern
 	rt staticlib signalfern_c
 endif
 

@@ -1,8 +1,8 @@
 //! Provides `libsignalfern_c.a`, the archive of the proved calls, to the linker.
 //!
 //! With `SIGNALFERN_LIB_DIR` set, the archive in that folder is taken as it is: this is for
-//! packagers who built it before. Otherwise `rt staticlib signalfern_c` proves and builds it in
-//! the repository around this package.
+//! packagers who built it before. Otherwise `rt` proves and builds it in the repository around this
+//! package.
 
 use std::path::{Path, PathBuf};
 use std::process::Command;
@@ -42,8 +42,15 @@ fn build_archive() -> PathBuf {
     for source in ["crates", "crates.txt"] {
         println!("cargo:rerun-if-changed={}", root.join(source).display());
     }
+    // Alone, `rt staticlib` would prove the crates below one after the other; `rt check` proves them side by side.
+    run_rt(root, ["check", "signalfern"]);
+    run_rt(root, ["staticlib", "signalfern_c"]);
+    root.join("target/staticlib").join(ARCHIVE)
+}
+
+fn run_rt(root: &Path, words: [&str; 2]) {
     let mut rt = Command::new("rt");
-    rt.args(["staticlib", "signalfern_c"]).current_dir(root);
+    rt.args(words).current_dir(root);
     let output = match rt.output() {
         Ok(output) => output,
         Err(error) => fail(&format!(
@@ -54,9 +61,11 @@ fn build_archive() -> PathBuf {
     if !output.status.success() {
         let text = [output.stdout, output.stderr].concat();
         eprintln!("{}", String::from_utf8_lossy(&text));
-        fail("`rt staticlib signalfern_c` failed; what it said follows under stderr");
+        fail(&format!(
+            "`rt {}` failed; what it said follows under stderr",
+            words.join(" ")
+        ));
     }
-    root.join("target/staticlib").join(ARCHIVE)
 }
 
 fn fail(message: &str) -> ! {
