@@ -7,11 +7,11 @@
  *
  *     cc program.c $(pkg-config --cflags --libs signalfern)     after `make install`
  *
- * Eleven calls are proved to do what is said here, on every input: signalfern_write, _check, _read,
- * _look_up, _open, _look_up_in, _next, _next_in, _look_up_layered, _look_up_layered_in and
- * _layered_values. They alone are in libsignalfern_c.a, which the Rattle kit makes. Four more stand at
+ * Fourteen calls are proved to do what is said here, on every input: signalfern_write, _check, _read,
+ * _look_up, _open, _look_up_in, _next, _next_in, _look_up_layered, _look_up_layered_in, _layered_values,
+ * _set_write, _set_check and _set_find. They alone are in libsignalfern_c.a, which the Rattle kit makes. Four more stand at
  * the end, for names, sentences and the version: plain C, tested and not proved (c/names.c). The
- * installed libsignalfern.a and libsignalfern.so have all fifteen.
+ * installed libsignalfern.a and libsignalfern.so have all eighteen.
  *
  * For every proved call:
  *
@@ -157,6 +157,13 @@ typedef struct {
     uint64_t len;
 } signalfern_part;
 
+/* What signalfern_set_find answers. Fields that a case does not name hold 0. */
+typedef struct {
+    uint64_t kind;    /* SIGNALFERN_FOUND, SIGNALFERN_ABSENT, or the refusal: 7, 8, 13, 14. */
+    uint64_t number;  /* Refused: the number with the refusal. */
+    uint64_t ordinal; /* Found: how many ids of the set lie below the id. */
+} signalfern_member;
+
 /*
  * Writes the column of the pairs (ids[i], values[i]) to the front of out.
  *
@@ -271,6 +278,37 @@ signalfern_layered signalfern_look_up_layered_in(signalfern_column machine_colum
 signalfern_part signalfern_layered_values(const uint8_t *machine, size_t machine_len,
                                           const uint8_t *correction, size_t correction_len,
                                           uint32_t id);
+
+/*
+ * Sets on disk: ids without values, and without a header. A set is the number of its blocks of 65536
+ * ids and each block that has an id: its ids listed, its missing ids listed, or a bitmap, whichever the
+ * count asks for.
+ */
+
+/*
+ * Writes the set of the ids to the front of out.
+ *
+ * Done: number is the set's byte count; exactly these bytes of out were written. Refused: 3, 4 or 6, the
+ * lowest that applies, and out stays as it was. To learn how many bytes are needed, call with out_len 0.
+ */
+signalfern_reply signalfern_set_write(const uint32_t *ids, size_t ids_len,
+                                      uint8_t *out, size_t out_len);
+
+/*
+ * Tells whether the bytes are a set, to the last bit.
+ *
+ * Done: number is the count of ids, and there is just one id list with this set. Refused: the first
+ * fault in the order of the bytes decides, 7 or 8 for one of the set's numbers, with the numbers that a
+ * header has with them, and 13 for all else. The time grows with the bytes, not with the ids.
+ */
+signalfern_reply signalfern_set_check(const uint8_t *bytes, size_t len);
+
+/*
+ * Tells whether the id is in the set, and its ordinal. Refused: 14, then as signalfern_set_check: the
+ * bytes are checked in full on the way, and each question takes that long. It answers as
+ * signalfern_look_up does in a column of the same ids.
+ */
+signalfern_member signalfern_set_find(const uint8_t *bytes, size_t len, uint32_t id);
 
 /*
  * From here on plain C, not proved (c/names.c). No text is to be freed, and none is NULL.

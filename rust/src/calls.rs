@@ -94,7 +94,7 @@ impl Answer {
     }
 }
 
-fn number(reply: ffi::Reply) -> Result<u64, Refusal> {
+pub(crate) fn number(reply: ffi::Reply) -> Result<u64, Refusal> {
     match reply.refusal {
         0 => Ok(reply.number),
         refusal => Err(Refusal::given(refusal, reply.number)),
@@ -102,7 +102,7 @@ fn number(reply: ffi::Reply) -> Result<u64, Refusal> {
 }
 
 /// A number that counts elements of a slice lent to the call.
-fn len(reply: ffi::Reply) -> Result<usize, Refusal> {
+pub(crate) fn len(reply: ffi::Reply) -> Result<usize, Refusal> {
     number(reply).map(|number| usize::try_from(number).expect("no slice is longer"))
 }
 
@@ -146,7 +146,7 @@ pub fn write(ids: &[u32], values: &[i64], power: u32, out: &mut [u8]) -> Result<
 }
 
 /// So many places that hold 0, without an abort where there is no memory for them.
-fn places<T: Clone + Default>(count: usize) -> Result<Vec<T>, TryReserveError> {
+pub(crate) fn places<T: Clone + Default>(count: usize) -> Result<Vec<T>, TryReserveError> {
     let mut places = Vec::new();
     places.try_reserve_exact(count)?;
     places.resize(count, T::default());

@@ -77,6 +77,14 @@ pub(crate) struct Part {
     pub len: u64,
 }
 
+#[repr(C)]
+#[derive(Clone, Copy)]
+pub(crate) struct Member {
+    pub kind: u64,
+    pub number: u64,
+    pub ordinal: u64,
+}
+
 extern "C" {
     fn signalfern_write(
         ids: *const u32,
@@ -130,6 +138,10 @@ extern "C" {
         correction_len: usize,
         id: u32,
     ) -> Part;
+    fn signalfern_set_write(ids: *const u32, ids_len: usize, out: *mut u8, out_len: usize)
+        -> Reply;
+    fn signalfern_set_check(bytes: *const u8, len: usize) -> Reply;
+    fn signalfern_set_find(bytes: *const u8, len: usize, id: u32) -> Member;
 }
 
 pub(crate) fn write(ids: &[u32], values: &[i64], power: u32, out: &mut [u8]) -> Reply {
@@ -211,4 +223,19 @@ pub(crate) fn layered_values(machine: &[u8], correction: &[u8], id: u32) -> Part
     let (m, c) = (machine, correction);
     // SAFETY: two slices with their own lengths, only read.
     unsafe { signalfern_layered_values(m.as_ptr(), m.len(), c.as_ptr(), c.len(), id) }
+}
+
+pub(crate) fn set_write(ids: &[u32], out: &mut [u8]) -> Reply {
+    // SAFETY: two slices with their own lengths; `out` is borrowed for this call alone.
+    unsafe { signalfern_set_write(ids.as_ptr(), ids.len(), out.as_mut_ptr(), out.len()) }
+}
+
+pub(crate) fn set_check(bytes: &[u8]) -> Reply {
+    // SAFETY: a slice with its own length, only read.
+    unsafe { signalfern_set_check(bytes.as_ptr(), bytes.len()) }
+}
+
+pub(crate) fn set_find(bytes: &[u8], id: u32) -> Member {
+    // SAFETY: a slice with its own length, only read.
+    unsafe { signalfern_set_find(bytes.as_ptr(), bytes.len(), id) }
 }

@@ -1,7 +1,7 @@
 //! Score columns: byte strings that hold pairs of an id and a signed 64-bit value, with the ids
 //! strictly ascending.
 //!
-//! There are eight calls: [`write()`] a column, [`check`] one, [`read`] it whole, [`look_up`] one id,
+//! There are eight calls on columns: [`write()`] a column, [`check`] one, [`read`] it whole, [`look_up`] one id,
 //! find the [`next()`] listed one, look an id up in a column with a correction on top
 //! ([`look_up_layered`]) and show the bytes that hold it ([`layered_values`]), and [`Column::open`] for
 //! many such questions to the same columns. Each is a thin wrapper of a call that is written and
@@ -56,6 +56,7 @@ mod layered;
 mod next;
 mod pairs;
 mod refusal;
+mod set;
 
 pub use calls::{check, look_up, read, read_to_vecs, write, write_pairs, write_to_vec, Answer};
 pub use checked::Checked;
@@ -65,6 +66,7 @@ pub use layered::{layered_values, look_up_layered, Layer, Layered, LayeredAnswer
 pub use next::{next, Candidate, Candidates, Cursor};
 pub use pairs::Pairs;
 pub use refusal::Refusal;
+pub use set::{set_check, set_find, set_write, set_write_to_vec, Set};
 
 /// The greatest id.
 pub const MAX_ID: u32 = 2_147_352_575;

@@ -72,6 +72,45 @@ static int next_refusals(signalfern_column column, const uint8_t *bytes, size_t 
     return 0;
 }
 
+static int same_member(signalfern_member m, uint64_t kind, uint64_t number, uint64_t ordinal)
+{
+    return m.kind == kind && m.number == number && m.ordinal == ordinal;
+}
+
+/* Ids without values: exact bytes, refusals with their numbers, fields left free, and bytes that a refusal does not change. */
+static int sets(void)
+{
+    PROMISE(sizeof(signalfern_member) == 24);
+    const uint32_t ids[] = {4, 9, SIGNALFERN_MAX_ID, SIGNALFERN_MAX_ID + 1, 7};
+    const uint8_t two[] = {1, 0, 0, 2, 4, 0, 9, 0};
+    uint8_t out[16], before[16];
+    memset(out, 0x5A, sizeof out);
+    memcpy(before, out, sizeof out);
+    signalfern_reply reply = signalfern_set_write(ids + 2, 3, out, sizeof out);
+    PROMISE(reply.refusal == SIGNALFERN_ORDER && reply.number == 2);
+    reply = signalfern_set_write(ids, 4, out, sizeof out);
+    PROMISE(reply.refusal == SIGNALFERN_RANGE && reply.number == 3);
+    reply = signalfern_set_write(ids, 2, out, sizeof two - 1);
+    PROMISE(reply.refusal == SIGNALFERN_ROOM && reply.number == sizeof two);
+    PROMISE(memcmp(out, before, sizeof out) == 0);
+    reply = signalfern_set_write(ids, 2, out, sizeof out);
+    PROMISE(reply.refusal == 0 && reply.number == sizeof two && memcmp(out, two, sizeof two) == 0);
+    PROMISE(memcmp(out + sizeof two, before + sizeof two, sizeof out - sizeof two) == 0);
+    reply = signalfern_set_check(out, sizeof two);
+    PROMISE(reply.refusal == 0 && reply.number == 2);
+    PROMISE(same_member(signalfern_set_find(out, sizeof two, 9), SIGNALFERN_FOUND, 0, 1));
+    PROMISE(same_member(signalfern_set_find(out, sizeof two, 5), SIGNALFERN_ABSENT, 0, 0));
+    PROMISE(same_member(signalfern_set_find(NULL, 0, SIGNALFERN_MAX_ID + 1), SIGNALFERN_ID, 0, 0));
+    PROMISE(same_member(signalfern_set_find(NULL, 0, SIGNALFERN_MAX_ID), SIGNALFERN_SHORT, 0, 0));
+    PROMISE(same_member(signalfern_set_find(out, 2, 9), SIGNALFERN_SHORT, 2, 0));
+    PROMISE(same_member(signalfern_set_find(out, sizeof two + 1, 9), SIGNALFERN_DAMAGED, 0, 0));
+    const uint8_t padded[] = {1, 0x80, 0};
+    PROMISE(same_member(signalfern_set_find(padded, 3, 9), SIGNALFERN_NUMBER, 2, 0));
+    reply = signalfern_set_write(NULL, 0, out, 1);
+    PROMISE(reply.refusal == 0 && reply.number == 1 && out[0] == 0);
+    return 0;
+}
+
 static int next_candidates(void)
 {
     PROMISE(sizeof(signalfern_cursor) == 4);
@@ -268,5 +307,5 @@ int main(void)
     refused.refusal = SIGNALFERN_LENGTH;
     PROMISE(memcmp(&column, &refused, sizeof column) == 0);
     PROMISE(same_answer(signalfern_look_up_in(column, out, len, 4), SIGNALFERN_HEADER, 0, 0, 0, 0));
-    return next_candidates() || corrections() || refused_columns();
+    return next_candidates() || corrections() || refused_columns() || sets();
 }

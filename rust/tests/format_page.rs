@@ -44,6 +44,23 @@ fn columns_taken_apart() {
     }
 }
 
+/// The sets that the page has bytes of.
+#[test]
+fn sets_of_the_page() {
+    let full: Vec<u32> = (0..65_536).collect();
+    let but_two: Vec<u32> = (0..65_536).filter(|id| ![3, 258].contains(id)).collect();
+    for (ids, bytes) in [
+        (&[0, 2, 7][..], "01 00 00 03 00 00 02 00 07 00"),
+        (&full, "01 00 01 00"),
+        (&but_two, "01 00 01 02 03 00 02 01"),
+        (&[], "00"),
+    ] {
+        assert!(PAGE.contains(&format!("`{bytes}`")));
+        let set = signalfern::set_write_to_vec(ids).unwrap();
+        assert_eq!(set, common::bytes(bytes));
+    }
+}
+
 #[test]
 fn a_changed_value_can_be_sound() {
     assert!(PAGE.contains("byte 26 turned from `D0` to `90` (one bit)"));

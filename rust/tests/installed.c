@@ -63,6 +63,12 @@ int main(void)
     signalfern_part part = signalfern_layered_values(NULL, 0, column, len, 7);
     PROMISE(part.column == SIGNALFERN_CORRECTION && part.start + part.len == len && part.len == opened.value_bytes);
 
+    reply = signalfern_set_write(ids, 3, column, sizeof column);
+    PROMISE(reply.refusal == 0);
+    len = reply.number;
+    PROMISE(signalfern_set_check(column, len).number == 3);
+    PROMISE(signalfern_set_find(column, len, 7).ordinal == 2);
+
     printf("%s\n", signalfern_version());
     for (uint64_t refusal = 1; refusal <= 16; refusal++) {
         if (refusal == 5) /* not used */

@@ -6,8 +6,8 @@ use std::process::Command;
 
 use common::tool::{has_program, run, Folder};
 
-const COMMANDS: [&str; 9] = [
-    "write", "check", "read", "look-up", "next", "audit", "show", "demo", "help",
+const COMMANDS: [&str; 10] = [
+    "write", "check", "read", "look-up", "next", "audit", "show", "set", "demo", "help",
 ];
 
 #[test]

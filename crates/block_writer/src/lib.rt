@@ -16,7 +16,7 @@ use blocks::Kind;
 // ---- sparse
 
 // Puts the places as shorts.
-fn put_sparse(part: &[u32], out: &mut [u8], at: usize)
+pub fn put_sparse(part: &[u32], out: &mut [u8], at: usize)
     requires { ⌜ at + 2 * length (now part) ≤ length (now out) ⌝ }
     ensures { λ _. ⌜ now (out .exit) ≡ sets (now (out .entry)) at (bytesOf (low 2) (placesFrom (now (part .entry)) 0)) ⌝ }
 {
@@ -101,7 +101,7 @@ fn put_ranked(part: &[u32], p: usize, out: &mut [u8], at: usize)
     }
 }
 
-fn put_dense(part: &[u32], p: usize, out: &mut [u8], at: usize)
+pub fn put_dense(part: &[u32], p: usize, out: &mut [u8], at: usize)
     requires { ⌜ (From (now part) 0 0) × (Power p) × (at + rankBytes p + bitmapBytes ≤ length (now out)) ⌝ }
     ensures { λ _. ⌜ now (out .exit) ≡ sets (now (out .entry)) at (bitsOf p (placesFrom (now (part .entry)) 0)) ⌝ }
 {

@@ -6,6 +6,7 @@ use Rattle.format.proofs.Pins.{WriterCases, writer-cases, DivisorCases,
 use Rattle.format.proofs.PinsPlaces.{PlaceCases, place-cases}
 use Rattle.format.proofs.PinsNext.{NextCases, next-cases, NextKindCases, next-kind-cases, NextDamageCases, next-damage-cases}
 use Rattle.format.proofs.PinsLayered.{LayeredCases, layered-cases, LayeredInCases, layered-in-cases, LayeredPartCases, layered-part-cases}
+use Rattle.format.proofs.PinsSets.{SetCases, set-cases, SetCheckCases, set-check-cases, SetFindCases, set-find-cases}
 use Rattle.format.proofs.PinsSteps.{DamageCases, damage-cases, StepCases, step-cases, WalkCases, walk-cases}
 use Rattle.format.proofs.PinsProbes.{HalvingCases, halving-cases, ProbeCases, probe-cases}
 
@@ -26,6 +27,9 @@ pub record AllCases : Type 0 where
   pub layered-table : LayeredCases
   pub layered-in-table : LayeredInCases
   pub layered-part-table : LayeredPartCases
+  pub set-table : SetCases
+  pub set-check-table : SetCheckCases
+  pub set-find-table : SetFindCases
 
 pub all-cases : AllCases
 all-cases =
@@ -46,4 +50,7 @@ all-cases =
       layered-table = layered-cases;
       layered-in-table = layered-in-cases;
       layered-part-table = layered-part-cases;
+      set-table = set-cases;
+      set-check-table = set-check-cases;
+      set-find-table = set-find-cases;
     }

@@ -18,8 +18,12 @@ use Rattle.format.specs.Opening.{openColumn, headFrom, headOk, idPart, v
 use Rattle.format.specs.Check.{check, allValues, pairsIn, isDone, isColumn, accepted, reading}
 use Rattle.format.specs.LookUp.{scan, halveIn, halve, inSparse, onesFrom, strideLong, strideRank, denseAt, placeAt, probesAt, entryAt, answer, fromEntry}
 use Rattle.format.specs.LookUp.{steps, entered, probesFrom, stepProbes, lookUp, openedProbes, lookUpProbes, lookUpIn}
-use Rattle.format.specs.Walk.{indexOf, seenOr, walkFrom, walk, listedPlaces, probes}
+use Rattle.format.specs.Walk.{indexOf, seenOr, walkFrom, walk, listed, listedPlaces, probes}
+use Rattle.format.specs.Pairs.{ascFrom}
 use Rattle.format.specs.Next.{decides, inTurn, nextSteps, next, nextIn, lastAfter, firstFrom, listNext, inSequence}
+use Rattle.format.specs.SetBytes.{setKind, begins, past, missing, setList, setData, setBlockAs, setBlock, setBytes, setWrite}
+use Rattle.format.specs.SetCalls.{listLengthOk, setDataBytes, setDataFits, setDataOk, setPlaces, dataFrom, lengthFrom, kindFrom, blockFrom, setRun}
+use Rattle.format.specs.SetCalls.{blocksFrom, setIds, setCheck, memberIn, setFind}
 
 unfoldable pub computing : Type 0
 unfolding bind onesIn andThen need given needNone bytesOf countFrom digits same fromDigits lowAt highAt groups number above readGroups readNumber
@@ -30,4 +34,6 @@ unfolding bind onesIn andThen need given needNone bytesOf countFrom digits same 
     check allValues pairsIn isDone isColumn accepted reading scan halveIn halve inSparse onesFrom strideLong strideRank denseAt placeAt probesAt
     entryAt answer fromEntry steps entered probesFrom stepProbes lookUp openedProbes lookUpProbes lookUpIn indexOf seenOr walkFrom walk
     listedPlaces probes decides inTurn nextSteps next nextIn lastAfter firstFrom listNext inSequence
+    ascFrom setKind begins past missing setList setData setBlockAs setBlock setBytes setWrite listLengthOk setDataBytes setDataFits setDataOk setPlaces
+    dataFrom lengthFrom kindFrom blockFrom setRun blocksFrom setIds setCheck listed memberIn setFind
 computing = Unit {0}

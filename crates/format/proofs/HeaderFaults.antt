@@ -163,7 +163,7 @@ open-refused known (x ∷ ns) bytes next why w h d n e =
 
 -- ---- what a refused number says of its bytes
 
-number-refused : (bytes : List ℕ) (at w : ℕ) → Below 256 bytes → numberAt bytes at ≡ refused NUMBER w → (k : ℕ) × BadBytes (drop at bytes) k × (at + k ≡ w)
+pub number-refused : (bytes : List ℕ) (at w : ℕ) → Below 256 bytes → numberAt bytes at ≡ refused NUMBER w → (k : ℕ) × BadBytes (drop at bytes) k × (at + k ≡ w)
 unfolding numberAt gotAt
 number-refused bytes at w u = go (readNumber (drop at bytes)) refl
   where
@@ -172,7 +172,7 @@ number-refused bytes at w u = go (readNumber (drop at bytes)) refl
     go short e d = absurd (let z : SHORT ≡ NUMBER = cc in omega arith)
     go (bad k) e d = (k, bad-bytes (drop at bytes) k (below-drop 256 at bytes u) e, cc)
 
-number-short : (bytes : List ℕ) (at w : ℕ) → Below 256 bytes → numberAt bytes at ≡ refused SHORT w → Begun (drop at bytes) × (w ≡ length bytes)
+pub number-short : (bytes : List ℕ) (at w : ℕ) → Below 256 bytes → numberAt bytes at ≡ refused SHORT w → Begun (drop at bytes) × (w ≡ length bytes)
 unfolding numberAt gotAt
 number-short bytes at w u = go (readNumber (drop at bytes)) refl
   where

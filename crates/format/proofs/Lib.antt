@@ -9,6 +9,7 @@ pub mod PinsSteps
 pub mod PinsProbes
 pub mod PinsNext
 pub mod PinsLayered
+pub mod PinsSets
 pub mod Demands
 pub mod Meaning
 pub mod MeaningValues

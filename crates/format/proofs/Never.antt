@@ -11,6 +11,7 @@ use Rattle.format.specs.Opening.{Opened, openColumn, idPart}
 use Rattle.format.specs.Check.{accepted}
 use Rattle.format.specs.LookUp.{Look, Place, found, absent, inside, nowhere, broken, Rule, answer, fromEntry, steps}
 use Rattle.format.specs.Next.{Candidate, decides, inTurn, nextSteps}
+use Rattle.format.specs.SetCalls.{dataFrom, lengthFrom, kindFrom, blockFrom, blocksFrom, setIds}
 
 -- ---- one number
 
@@ -128,3 +129,21 @@ module _ (k : ℕ) where
     pub of-next : (t : ℕ) → Never k (nextSteps bytes c t)
     unfolding nextSteps
     of-next t = of-turns _ t _ (at-done _)
+
+  -- a set's blocks, and the list that they hold (document 02, [14])
+  module _ (s : Other k SHORT) (n : Other k NUMBER) (d : Other k DAMAGED) (bytes : List ℕ) where
+    of-block : (next at : ℕ) → Never k (blockFrom next bytes at)
+    unfolding blockFrom kindFrom lengthFrom dataFrom
+    of-block next at =
+        at-then _ _ (of-number s n bytes at) (λ b. at-need _ _ _ _ d
+        (at-then _ _ (of-number s n bytes _) (λ t. at-need _ _ _ _ d
+        (at-then _ _ (of-number s n bytes _) (λ c. at-need _ _ _ _ d (at-need _ _ _ _ d (at-done _)))))))
+
+    of-blocks : (m next at : ℕ) → Never k (blocksFrom m next bytes at)
+    unfolding blocksFrom
+    of-blocks zero next at = at-need _ _ _ _ d (at-done _)
+    of-blocks (suc m) next at = at-then _ _ (of-block next at) (λ h. at-then _ _ (of-blocks m _ _) (λ gs. at-done _))
+
+    pub of-set : Never k (setIds bytes)
+    unfolding setIds
+    of-set = at-then _ _ (of-number s n bytes 0) (λ m. at-need _ _ _ _ d (at-then _ _ (of-blocks _ 0 _) (λ gs. at-done _)))

@@ -2,11 +2,11 @@
 -- limits comes near that line, and no call gives 5 for any input. Assumes nothing.
 use Rattle.format.specs.Kit.{_≡_, refl, List, [], _∷_, _++_, append-assoc, ℕ, zero, suc, _+_, _*_, _≤_, _<_, zero-le, arith, ℤ, length, take}
 use Rattle.format.specs.Kit.{drop, drop-at}
-use Rattle.format.specs.Limits.{startLimit}
+use Rattle.format.specs.Limits.{maxBlocks, startLimit}
 use Rattle.format.specs.Refusals.{refused}
 use Rattle.format.specs.Bytes.{bytesOf}
 use Rattle.format.specs.Ids.{Run, runs, blockOf, endBlock, jumps, entryBytes, blocks, idSection, startOf}
-use Rattle.format.specs.Runs.{AscBlocks, endOf, totalBytes}
+use Rattle.format.specs.Runs.{AllFine, AscBlocks, endOf, totalBytes}
 use Rattle.format.specs.Editions.{Edition}
 use Rattle.format.specs.Pairs.{Valid}
 use Rattle.format.specs.Writer.{writeAs}
@@ -14,9 +14,11 @@ use Rattle.format.specs.Opening.{Opened, openColumn}
 use Rattle.format.specs.Check.{check, reading}
 use Rattle.format.specs.LookUp.{lookUp, lookUpIn}
 use Rattle.format.specs.Next.{next, nextIn}
+use Rattle.format.specs.SetBytes.{setWrite}
+use Rattle.format.specs.SetCalls.{setIds, setCheck, setFind}
 use Rattle.format.specs.Replies.{refusalNumber}
 use Rattle.format.specs.declared.Refusal as Re
-use Rattle.format.proofs.Never.{Never, never, at-done, at-need, at-none, at-then, of-open, of-accepted, of-steps, of-next}
+use Rattle.format.proofs.Never.{Never, never, at-done, at-need, at-none, at-then, of-open, of-accepted, of-steps, of-next, of-set}
 use Rattle.format.proofs.Section.{length-blockOf, length-blocks}
 use Rattle.format.proofs.Bounds.{rank-le, block-le, end-le}
 use Rattle.format.proofs.RoundTrip.{power16, power-ge, blocks-asc, blocks-fine, blocks-le}
@@ -41,6 +43,10 @@ unfolding endOf
 blocks-under next [] t = omega arith
 blocks-under next (g ∷ gs) t = omega (arith, t .0, blocks-under (suc (g .block)) gs (t .1))
 
+-- so there are no more of them than block numbers
+pub blocks-few : (gs : List Run) → AllFine gs → AscBlocks 0 gs → length gs ≤ maxBlocks
+blocks-few gs fine asc = omega (arith, blocks-under 0 gs asc, end-le 0 gs zero-le fine)
+
 -- for every list within the limits and every rank power
 module _ (p : ℕ) (ids : List ℕ) (vs : List ℤ) (ok : Valid p ids vs) where
   -- block i, from 0, stands at its start, and the end block after the last
@@ -53,8 +59,7 @@ module _ (p : ℕ) (ids : List ℕ) (vs : List ℤ) (ok : Valid p ids vs) where
 
   -- there are at most 32766 blocks,
   pub few-blocks : length (runs ids) ≤ 32766
-  few-blocks =
-      omega (arith, blocks-under 0 (runs ids) (blocks-asc p ids vs ok), end-le 0 (runs ids) zero-le (blocks-fine p ids vs ok))
+  few-blocks = blocks-few (runs ids) (blocks-fine p ids vs ok) (blocks-asc p ids vs ok)
 
   -- of at most 9220 bytes each,
   pub short-blocks : (g : Run) → length (blockOf p g) ≤ 9220
@@ -111,6 +116,23 @@ pub next-in-never-5 : (bytes : List ℕ) (c : Opened) (last t w : ℕ) → nextI
 unfolding nextIn
 next-in-never-5 bytes c last t w =
     never 5 _ w (at-need 5 _ _ _ _ refl (at-need 5 _ _ _ _ refl (at-need 5 _ _ _ _ refl (at-need 5 _ _ _ _ refl (of-next 5 refl bytes c t)))))
+
+-- nor does a call on a set (document 02, [14])
+pub set-write-never-5 : (ids : List ℕ) (room w : ℕ) → setWrite ids room ≡ refused 5 w → ⊥
+unfolding setWrite
+set-write-never-5 ids room w = never 5 _ w (at-none 5 _ _ _ refl (at-none 5 _ _ _ refl (at-need 5 _ _ _ _ refl (at-done 5 _))))
+
+module _ (bytes : List ℕ) (w : ℕ) where
+  set-not-5 : Never 5 (setIds bytes)
+  set-not-5 = of-set 5 refl refl refl bytes
+
+  pub set-check-never-5 : setCheck bytes ≡ refused 5 w → ⊥
+  unfolding setCheck
+  set-check-never-5 = never 5 _ w (at-then 5 _ _ set-not-5 (λ ids. at-done 5 _))
+
+  pub set-find-never-5 : (id : ℕ) → setFind bytes id ≡ refused 5 w → ⊥
+  unfolding setFind
+  set-find-never-5 id = never 5 _ w (at-need 5 _ _ _ _ refl (at-then 5 _ _ set-not-5 (λ ids. at-done 5 _)))
 
 -- the type that the code answers: whatever keeps the contract of `Refusal::number` is not 5
 pub number-never-5 : (why : Re.Refusal) (r : ℕ) → r ≡ refusalNumber why → r ≡ 5 → ⊥

@@ -44,7 +44,7 @@ unfolding orderFault
 in-order [] t = refl
 in-order (x ∷ xs) t = no-order-fault 1 x xs (t .1)
 
-in-range : (i : ℕ) (ids : List ℕ) → Below 2147352576 ids → rangeFault i ids ≡ none
+pub in-range : (i : ℕ) (ids : List ℕ) → Below 2147352576 ids → rangeFault i ids ≡ none
 unfolding rangeFault
 in-range i [] t = refl
 in-range i (x ∷ xs) t = rw (le-leb x 2147352575 (omega (arith, t .0))) (in-range (suc i) xs (t .1))

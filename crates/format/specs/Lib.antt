@@ -1,4 +1,4 @@
--- Every definition of document 01, a file for each of its parts.
+-- Every definition of document 01, a file for each of its parts, and of what document 02 adds.
 pub mod Kit
 pub mod Limits
 pub mod Refusals
@@ -20,6 +20,8 @@ pub mod LookUp
 pub mod Walk
 pub mod Next
 pub mod Layered
+pub mod SetBytes
+pub mod SetCalls
 pub mod Replies
 pub mod Runs
 pub mod Stores

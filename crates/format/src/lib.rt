@@ -72,6 +72,13 @@ pub struct Next {
     pub candidate: Candidate,
 }
 
+// What membership in a set on disk answers (document 02, [14]): the id's ordinal, or that it is not there.
+pub enum Member {
+    Found(u64),
+    Absent,
+    Refused(Refusal),
+}
+
 // What the header says of the values, in the words of its edition: the numbers 6 to 8 (the smallest value as its header number).
 pub struct Fields {
     pub width: u64,

@@ -82,7 +82,7 @@ fn sparse(s: &[u8], at: usize, count: usize, r: u64) -> Inner
 
 // ---- step 6, dense
 
-fn bit_of(long: u64, b: usize) -> u64
+pub fn bit_of(long: u64, b: usize) -> u64
     requires { ⌜ b < 64 ⌝ }
     ensures { λ r. ⌜ r ≡ long / 2 ^ b % 2 ⌝ }
 {

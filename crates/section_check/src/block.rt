@@ -19,7 +19,7 @@ fn above(right: bool, x: u64, y: u64) -> bool
 }
 
 // The shorts ascend. The loop does not stop at one that does not, and so takes several at once.
-fn ascending(s: &[u8], t: usize, c: usize) -> bool
+pub fn ascending(s: &[u8], t: usize, c: usize) -> bool
     requires { ⌜ t + 2 * c ≤ length (now s) ⌝ }
     ensures { λ r. ⌜ r ≡ ascFrom 0 (shorts c (drop t (now (s .entry)))) ⌝ }
 {

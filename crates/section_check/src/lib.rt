@@ -20,6 +20,8 @@ use numbers::size;
 
 mod block;
 
+pub use block::ascending;
+
 // The block of the greatest id.
 const MAX_BLOCK: u64 = 32765;
 

@@ -3,14 +3,14 @@ use Rattle.format.specs.Kit.{_≡_, refl, sym, ap, _∙_, subst, List, [], appe
 use Rattle.format.specs.Kit.{drop, replicate, sets}
 use Rattle.format.specs.Limits.{maxBlock}
 use Rattle.format.specs.Bytes.{bytesOf}
-use Rattle.format.specs.Ids.{runs, blockBytes, blockOf, entryBytes, jumpsFrom}
+use Rattle.format.specs.Ids.{Run, runs, blockBytes, entryBytes, jumpsFrom}
 use Rattle.format.specs.Runs.{AllFine, AscBlocks, totalBytes}
 use Rattle.format.specs.Stores.{Fill}
-use Rattle.format.proofs.Section.{length-blocks, length-bytesOf, entry-eight}
+use Rattle.format.proofs.Section.{length-bytesOf, entry-eight}
 use Rattle.format.proofs.Stores.{begun, part-more, room, filled, reached}
 use Rattle.block_writer.specs.Part.{runOf}
 use Rattle.section_writer.specs.Good.{Good, part, RunAt}
-use Rattle.section_writer.proofs.Steps.{its-block, fine-more, asc-more, blocks-more, block-long, blocks-none, jumps-more, length-equal, last-entry}
+use Rattle.section_writer.proofs.Steps.{its-block, fine-more, asc-more, bytes-more, bytes-none, jumps-more, length-equal, last-entry}
 
 -- ---- the bytes of the blocks
 
@@ -18,39 +18,34 @@ pub record Summed (ids : List ℕ) (p i sum : ℕ) : Type 0 where
   pub inside : i ≤ length ids
   pub total : sum + totalBytes p (runs (drop i ids)) ≡ totalBytes p (runs ids)
 
--- ---- blocks: those from index i on are left for place pos
+-- ---- blocks, of whatever bytes: those from index i on are left for place pos
 
-pub record Written (ids : List ℕ) (p : ℕ) (out₀ : List ℕ) (at i pos : ℕ) (out : List ℕ) : Type 0 where
+pub record Written (ids : List ℕ) (f : Run → List ℕ) (out₀ : List ℕ) (at i pos : ℕ) (out : List ℕ) : Type 0 where
   pub inside : i ≤ length ids
   pub fine : AllFine (runs (drop i ids))
-  pub fill : Fill out₀ at (bytesOf (blockOf p) (runs ids)) out pos (bytesOf (blockOf p) (runs (drop i ids)))
+  pub fill : Fill out₀ at (bytesOf f (runs ids)) out pos (bytesOf f (runs (drop i ids)))
 
-pub written-none : {ids : List ℕ} {p : ℕ} {out₀ : List ℕ} {at : ℕ} → Good ids → Written ids p out₀ at 0 at out₀
+pub written-none : {ids : List ℕ} {f : Run → List ℕ} {out₀ : List ℕ} {at : ℕ} → Good ids → Written ids f out₀ at 0 at out₀
 written-none g = record { inside = zero-le; fine = g .fine; fill = begun _ _ _ _ refl }
 
-module _ {ids : List ℕ} {p : ℕ} {out₀ : List ℕ} {at i pos : ℕ} {out : List ℕ} (h : p ≤ 16) (g : Written ids p out₀ at i pos out) where
+module _ {ids : List ℕ} {f : Run → List ℕ} {out₀ : List ℕ} {at i pos : ℕ} {out : List ℕ} (g : Written ids f out₀ at i pos out) where
   module _ {j : ℕ} (r : RunAt ids i j) where
-    pub block-room : at + totalBytes p (runs ids) ≤ length out₀ → pos + blockBytes p (j - i) ≤ length out
-    block-room k =
-        omega (
-          arith,
-          room _ _ _ _ _ _ (g .fill) (blockOf p (runOf (part i j ids))) _ (blocks-more r p) (omega (arith, length-blocks p (runs ids) h)),
-          block-long r p h,
-        )
+    pub block-room : at + length (bytesOf f (runs ids)) ≤ length out₀ → pos + length (f (runOf (part i j ids))) ≤ length out
+    block-room k = room _ _ _ _ _ _ (g .fill) (f (runOf (part i j ids))) _ (bytes-more r f) k
 
-    pub written-more : {n : ℕ} {out2 : List ℕ} → n ≡ blockBytes p (j - i) → out2 ≡ sets out pos (blockOf p (runOf (part i j ids)))
-        → Written ids p out₀ at j (pos + n) out2
+    pub written-more : {n : ℕ} {out2 : List ℕ} → n ≡ length (f (runOf (part i j ids))) → out2 ≡ sets out pos (f (runOf (part i j ids)))
+        → Written ids f out₀ at j (pos + n) out2
     written-more en eo =
         record {
           inside = r .inside;
           fine = fine-more r (g .fine) .1;
-          fill = part-more _ _ _ _ _ _ (g .fill) _ _ (blockOf p (runOf (part i j ids))) _ (blocks-more r p) eo (omega (arith, block-long r p h));
+          fill = part-more _ _ _ _ _ _ (g .fill) _ _ (f (runOf (part i j ids))) _ (bytes-more r f) eo (ap (λ (n : ℕ). pos + n) en);
         }
 
-  pub written-all : length ids ≤ i → (out ≡ sets out₀ at (bytesOf (blockOf p) (runs ids))) × (pos ≡ at + totalBytes p (runs ids))
+  pub written-all : length ids ≤ i → (out ≡ sets out₀ at (bytesOf f (runs ids))) × (pos ≡ at + length (bytesOf f (runs ids)))
   written-all k =
-      let e = blocks-none p ids i k in
-      (filled _ _ _ _ _ _ (g .fill) e, reached _ _ _ _ _ _ (g .fill) e ∙ ap (λ (n : ℕ). at + n) (length-blocks p (runs ids) h))
+      let e = bytes-none f ids i k in
+      (filled _ _ _ _ _ _ (g .fill) e, reached _ _ _ _ _ _ (g .fill) e)
 
 -- ---- entries: those of block `next` and on are left for place pos
 

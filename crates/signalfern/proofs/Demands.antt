@@ -21,18 +21,14 @@ use Rattle.format.proofs.Unique.{written-valid, is-read}
 use Rattle.format.proofs.HeaderFaults.{BrokenAt, EndsAt, number-fault, short-fault, check-from, reading-from, look-up-from}
 use Rattle.format.proofs.Probes.{step-probes-few, opened-probes, look-up-probes-few, accepted-probes}
 use Rattle.format.proofs.Demands.{written-1, checked-1, read-back-1, accepted-answers}
+use Rattle.signalfern.proofs.Outputs.{output-kept, output-put, output-is}
 
 -- ---- demand 1: a refused call changes no byte that it was lent
 
 pub refused-write : (p : ℕ) (ids : List ℕ) (vs : List ℤ) (out out′ : List ℕ) (r : Reply) (why w : ℕ)
     → replyOf r ≡ writeReply (write p ids vs (length out)) → out′ ≡ writeOut (write p ids vs (length out)) out
     → replyOf r ≡ refused why w → out′ ≡ out
-unfolding writeReply writeOut
-refused-write p ids vs out out′ r why w k after e = go (write p ids vs (length out)) refl
-  where
-    go : (o : Outcome (List ℕ)) → write p ids vs (length out) ≡ o → out′ ≡ out
-    go (done b) f = absurd (let x = ap writeReply f in let z : _≡_ {A = ℕ} 0 1 = cc in omega arith)
-    go (refused x y) f = after ∙ ap (λ (o : Outcome (List ℕ)). writeOut o out) f
+refused-write p ids vs out out′ r why w k after e = output-kept out out′ r _ k after why w e
 
 pub refused-read : (bytes is is′ : List ℕ) (xs xs′ : List ℤ) (q : Reply) (why w : ℕ)
     → replyOf q ≡ readReply (reading editions bytes (length is) (length xs))
@@ -108,16 +104,10 @@ module _ (p : ℕ) (ids : List ℕ) (vs : List ℤ) (fit : Each Fits vs) (out ou
     (wrote : replyOf r ≡ done n) where
   -- the lists were within the limits, and the first n bytes are their column
   pub wrote-column : Valid p ids vs × (take n out′ ≡ column plain p ids vs)
-  unfolding writeReply writeOut
-  wrote-column = go (write p ids vs (length out)) refl
-    where
-      go : (o : Outcome (List ℕ)) → write p ids vs (length out) ≡ o → Valid p ids vs × (take n out′ ≡ column plain p ids vs)
-      go (done b) f =
-          let v = written-valid plain p ids vs (length out) b fit f in
-          let m : n ≡ length b = let x = ap writeReply f in cc in
-          let o : out′ ≡ b ++ drop (length b) out = after ∙ ap (λ (o : Outcome (List ℕ)). writeOut o out) f in
-          (v .0, ap (take n) o ∙ take-at b (drop (length b) out) n (sym m) ∙ sym (v .1))
-      go (refused x y) f = absurd (let x = ap writeReply f in let z : _≡_ {A = ℕ} 0 1 = cc in omega arith)
+  wrote-column =
+      let b = output-put out out′ r _ kept after n wrote in
+      let v = written-valid plain p ids vs (length out) (b .0) fit (b .1) in
+      (v .0, b .2 ∙ sym (v .1))
 
   pub write-then-check : (c : Reply) → replyOf c ≡ check editions (take n out′) → replyOf c ≡ done (length ids)
   write-then-check c k = let w = wrote-column in k ∙ ap (check editions) (w .1) ∙ checked-1 p ids vs (w .0)
@@ -188,12 +178,7 @@ module _ (bytes : List ℕ) (c : Reply) (n : ℕ) (kept : replyOf c ≡ check ed
       → replyOf r ≡ writeReply (write (check-holds .opened .head .power) (check-holds .pairs .ids) (check-holds .pairs .values) (length out))
       → out′ ≡ writeOut (write (check-holds .opened .head .power) (check-holds .pairs .ids) (check-holds .pairs .values) (length out)) out
       → (replyOf r ≡ done (length bytes)) × (take (length bytes) out′ ≡ bytes)
-  unfolding writeReply writeOut
-  check-then-write r out out′ room k after =
-      let w = check-holds .writes (length out) room in (
-        k ∙ ap writeReply w,
-        ap (take (length bytes)) (after ∙ ap (λ (o : Outcome (List ℕ)). writeOut o out) w) ∙ take-at bytes (drop (length bytes) out) (length bytes) refl,
-      )
+  check-then-write r out out′ room k after = output-is out out′ r _ bytes (check-holds .writes (length out) room) k after
 
   -- ---- demand 3: on those bytes the look-up, the walk and the list agree, with the words of the formula
 

@@ -11,12 +11,15 @@ ghost use Rattle.format.specs.LookUp.{stepProbes, lookUp, lookUpProbes, lookUpI
 ghost use Rattle.format.specs.Walk.{FewWords};
 ghost use Rattle.format.specs.Next.{next, nextIn, lastAfter};
 ghost use Rattle.format.specs.Layered.{lookUpLayered, lookUpLayeredIn, layeredPart, IsPart};
-ghost use Rattle.format.specs.Replies.{replyOf, answerOf, candidateOf, Probed};
+ghost use Rattle.format.specs.SetBytes.{setWrite};
+ghost use Rattle.format.specs.SetCalls.{setCheck, setFind};
+ghost use Rattle.format.specs.Replies.{replyOf, answerOf, candidateOf, memberOf, Probed};
 ghost use Rattle.column.specs.Opened.{columnOf};
 ghost use Rattle.layered.specs.Answers.{layeredOf, partOf};
 use column::Column;
 use format::Answer;
 use format::Cursor;
+use format::Member;
 use format::Next;
 use format::Reply;
 use layered::Layered;
@@ -133,4 +136,30 @@ pub fn layered_part(machine: &[u8], correction: &[u8], id: u32) -> Part
     ensures { λ r. ⌜ partOf r ≡ layeredPart editions (now (machine .entry)) (now (correction .entry)) id ⌝ }
 {
     layered::layered_part(machine, correction, id)
+}
+
+// ---- the in-memory set's sibling on disk (document 02, [14]): ids alone, each block listed, its missing ones listed, or a bitmap
+
+// Writes the set of the ids into `out` and hands back its byte count. Refusals 3, 4 and 6 in order, each over the whole input before the
+// next; a refusal changes nothing, and success exactly the set's bytes.
+pub fn set_write(ids: &[u32], out: &mut [u8]) -> Reply
+    ensures replies { λ r. ⌜ replyOf r ≡ writeReply (setWrite (now (ids .entry)) (length (now (out .entry)))) ⌝ }
+    ensures written { λ _. ⌜ now (out .exit) ≡ writeOut (setWrite (now (ids .entry)) (length (now (out .entry)))) (now (out .entry)) ⌝ }
+{
+    set_writer::write(ids, out)
+}
+
+// Checks that the bytes are the set of some id list, and hands back how many ids it has. The first fault in byte order decides: 7 and 8
+// for a number that is none, 13 for all else. The time goes by the bytes, not by the ids.
+pub fn set_check(bytes: &[u8]) -> Reply
+    ensures { λ r. ⌜ replyOf r ≡ setCheck (now (bytes .entry)) ⌝ }
+{
+    set_check::check(bytes)
+}
+
+// Whether an id is in the set, and its ordinal there: refusal 14, then as the check.
+pub fn set_find(bytes: &[u8], id: u32) -> Member
+    ensures { λ r. ⌜ memberOf r ≡ setFind (now (bytes .entry)) id ⌝ }
+{
+    set_check::find(bytes, id)
 }

@@ -109,7 +109,7 @@ pub(crate) fn zigzag(value: i64) -> u64 {
 
 /// Reads the number at a place of the bytes, and moves the place past it. What is refused goes by all
 /// the bytes: SHORT tells how many they are, NUMBER the place of the byte that decided it.
-fn take_number(bytes: &[u8], place: &mut usize) -> Result<u64, Refusal> {
+pub(crate) fn take_number(bytes: &[u8], place: &mut usize) -> Result<u64, Refusal> {
     let mut number = 0;
     for i in 0..10 {
         let byte = *bytes.get(*place).ok_or(Refusal::short(bytes.len()))?;

@@ -10,6 +10,7 @@ mod ids;
 mod layered;
 mod look_up;
 mod next;
+mod set;
 mod sparse;
 mod values;
 
@@ -19,6 +20,7 @@ pub use layered::{
 };
 pub use look_up::{look_up, look_up_in};
 pub use next::{next, next_by_each_id, next_in, next_listed, Candidate, Next};
+pub use set::{set_check, set_find, set_write};
 pub use sparse::{halve, scan};
 
 /// The greatest id.
@@ -109,14 +111,8 @@ fn power_allowed(power: u64) -> bool {
     power == 0 || (7..=15).contains(&power)
 }
 
-/// Writes the column of the pairs to the front of `out`, and gives its byte count.
-pub fn write(ids: &[u32], values: &[i64], power: u32, out: &mut [u8]) -> Result<u64, Refusal> {
-    if ids.len() != values.len() {
-        return Err(Refusal::LENGTHS);
-    }
-    if !power_allowed(u64::from(power)) {
-        return Err(Refusal::POWER);
-    }
+/// ORDER over the whole list, then RANGE.
+fn in_order_and_range(ids: &[u32]) -> Result<(), Refusal> {
     if let Some(i) = ids.windows(2).position(|pair| pair[1] <= pair[0]) {
         return Err(Refusal::order(i + 1));
     }
@@ -125,6 +121,18 @@ pub fn write(ids: &[u32], values: &[i64], power: u32, out: &mut [u8]) -> Result<
     if within < ids.len() {
         return Err(Refusal::range(within));
     }
+    Ok(())
+}
+
+/// Writes the column of the pairs to the front of `out`, and gives its byte count.
+pub fn write(ids: &[u32], values: &[i64], power: u32, out: &mut [u8]) -> Result<u64, Refusal> {
+    if ids.len() != values.len() {
+        return Err(Refusal::LENGTHS);
+    }
+    if !power_allowed(u64::from(power)) {
+        return Err(Refusal::POWER);
+    }
+    in_order_and_range(ids)?;
     let layout = ids::Layout::of(ids, power);
     let plan = values::Plan::of(values);
     let column = Column {

@@ -34,6 +34,7 @@ mod printing;
 mod progress;
 mod range;
 mod read;
+mod set;
 mod sha256;
 mod show;
 mod sidecar;

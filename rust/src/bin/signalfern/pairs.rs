@@ -2,7 +2,7 @@
 
 use std::collections::TryReserveError;
 
-use signalfern::MAX_ID;
+use signalfern::{Refusal, MAX_ID};
 
 use crate::causes;
 use crate::failure::{Failure, TEXT};
@@ -16,8 +16,7 @@ use crate::text::quoted;
 pub struct Pairs {
     pub ids: Vec<u32>,
     pub values: Vec<i64>,
-    /// The numbers of the lines that were passed over, ascending.
-    passed_over: Vec<usize>,
+    pub passed_over: PassedOver,
     /// No byte came.
     pub was_empty: bool,
 }
@@ -30,11 +29,19 @@ pub enum Wrong {
     Text(String),
 }
 
-impl Pairs {
-    /// The number of the line that held the pair at this index.
-    pub fn line_of(&self, index: usize) -> usize {
+/// The numbers of the lines of a text that were passed over, ascending.
+#[derive(Debug, Default)]
+pub struct PassedOver(Vec<usize>);
+
+impl PassedOver {
+    pub fn push(&mut self, number: usize) -> Result<(), TryReserveError> {
+        memory::push(&mut self.0, number)
+    }
+
+    /// The number of the line that held what has this index.
+    fn line_of(&self, index: usize) -> usize {
         let mut line = index + 1;
-        for &passed in &self.passed_over {
+        for &passed in &self.0 {
             if passed > line {
                 break;
             }
@@ -43,6 +50,33 @@ impl Pairs {
         line
     }
 
+    /// A refusal of ids by the library, with the line and the ids it is about.
+    pub fn refused(&self, ids: &[u32], name: &str, refusal: Refusal) -> Failure {
+        let code = (refusal.number(), refusal.name());
+        let place = |index: usize| format!("{name}: line {}", self.line_of(index));
+        match refusal {
+            Refusal::Order { index } if index > 0 => {
+                let (before, id) = (ids[index - 1], ids[index]);
+                let line = self.line_of(index - 1);
+                let hint = if id == before {
+                    "an id may stand once"
+                } else {
+                    "sort the lines by id: sort -n"
+                };
+                let sentence = format!("id {id} is not above id {before} of line {line}; {hint}");
+                Failure::refused_as(place(index), code, sentence)
+            }
+            Refusal::Range { index } => {
+                let id = ids[index];
+                let sentence = format!("id {id} is above the greatest allowed, {MAX_ID}");
+                Failure::refused_as(place(index), code, sentence)
+            }
+            _ => Failure::refused(name, refusal),
+        }
+    }
+}
+
+impl Pairs {
     /// Reads all lines.
     pub fn read(input: Input) -> Result<Self, Failure> {
         let mut pairs = Self::default();
@@ -60,7 +94,7 @@ impl Pairs {
             };
             match parsed {
                 Ok(Some((id, value))) => pairs.push(id, value).map_err(no_room)?,
-                Ok(None) => memory::push(&mut pairs.passed_over, number).map_err(no_room)?,
+                Ok(None) => pairs.passed_over.push(number).map_err(no_room)?,
                 Err((line, wrong)) => {
                     let before = pairs.ids.len();
                     let (refusal, why) = causes::explain(lines.head(), &line, before, wrong);
@@ -91,8 +125,8 @@ impl Pairs {
     }
 }
 
-fn no_room(_: TryReserveError) -> Failure {
-    Failure::Trouble("not enough memory for the pairs of the list".to_string())
+pub fn no_room(_: TryReserveError) -> Failure {
+    Failure::Trouble("not enough memory for the list".to_string())
 }
 
 /// A line of digits, a space or tab, maybe a minus sign, digits, maybe a return, and a line feed: id,
@@ -187,7 +221,7 @@ impl Wrong {
     pub fn parts(self) -> ((u64, &'static str), String) {
         match self {
             Self::TooGreat(sentence) => {
-                let range = signalfern::Refusal::Range { index: 0 };
+                let range = Refusal::Range { index: 0 };
                 ((range.number(), range.name()), sentence)
             }
             Self::Text(sentence) => (TEXT, sentence),
@@ -246,11 +280,8 @@ mod tests {
             parse_line(b"4294967296 1"),
             Err(Wrong::TooGreat(_))
         ));
-        let pairs = Pairs {
-            passed_over: vec![1, 2, 5],
-            ..Pairs::default()
-        };
-        let lines: Vec<usize> = (0..3).map(|index| pairs.line_of(index)).collect();
+        let passed_over = PassedOver(vec![1, 2, 5]);
+        let lines: Vec<usize> = (0..3).map(|index| passed_over.line_of(index)).collect();
         assert_eq!(lines, [3, 4, 6]);
     }
 }

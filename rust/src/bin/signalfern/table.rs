@@ -2,7 +2,7 @@
 //! completions are all made from this table.
 
 use crate::command::{flag, option, Choice, Command, Value};
-use crate::{audit, check, demo, help, look_up, next, read, show, write};
+use crate::{audit, check, demo, help, look_up, next, read, set, show, write};
 
 /// What the tool is, above the list of commands.
 pub const ABOUT: &str = "score columns, by proved calls";
@@ -23,7 +23,9 @@ bit, as the writer would give it. It does not mean that nobody changed a score: 
 checksum, and most changes of a stored value give another sound column. To know that a file is the \
 one that was written, compare its SHA-256 digest: --digest, or a file COLUMN.sha256 beside it.";
 
-pub static COMMANDS: &[Command] = &[WRITE, CHECK, READ, LOOK_UP, NEXT, AUDIT, SHOW, DEMO, HELP];
+pub static COMMANDS: &[Command] = &[
+    WRITE, CHECK, READ, LOOK_UP, NEXT, AUDIT, SHOW, SET, DEMO, HELP,
+];
 
 const WRITE: Command = Command {
     name: "write",
@@ -222,6 +224,38 @@ const SHOW: Command = Command {
     run: show::run,
 };
 
+const SET: Command = Command {
+    name: "set",
+    words: "write [FILE] -o SET | check SET... | find SET ID...",
+    summary: "ids without values: write, check and ask",
+    text: &[
+        "A set is a file of ids alone. `set write` makes one of the lines of FILE, or of standard input: \
+         an id each, ascending. Empty lines and lines that start with # are passed over. A file is whole \
+         or not there, and its SHA-256 digest is printed.",
+        "`set check` tells for each file whether it is a sound set and how many ids it holds: sound as a \
+         column is, to the last bit. The status is the worst of all files.",
+        "`set find` tells for each id its ordinal (how many ids of the set lie below it), or `absent`. The \
+         set is checked first.",
+    ],
+    options: &[
+        option(
+            Some('o'),
+            "output",
+            ("SET", Value::File),
+            "for `set write`: the set's file; - is standard output, and the report then goes to \
+             standard error",
+        ),
+        flag(
+            Some('f'),
+            "force",
+            "for `set write`: replace a file that is not writable, or replace one although standard \
+             input was empty",
+        ),
+    ],
+    operands: Value::File,
+    run: set::run,
+};
+
 const DEMO: Command = Command {
     name: "demo",
     words: "[FOLDER]",
@@ -256,7 +290,7 @@ const HELP: Command = Command {
         ),
     ],
     operands: Value::OneOf(&[
-        "write", "check", "read", "look-up", "next", "audit", "show", "demo", "help",
+        "write", "check", "read", "look-up", "next", "audit", "show", "set", "demo", "help",
     ]),
     run: help::run,
 };

@@ -2,7 +2,7 @@
 
 use std::path::{Path, PathBuf};
 
-use signalfern::{power_allowed, Refusal, MAX_ID};
+use signalfern::{power_allowed, Refusal};
 
 use crate::arguments::Arguments;
 use crate::failure::{complain, say, Failure};
@@ -57,21 +57,29 @@ pub fn run(mut arguments: Arguments) -> Result<(), Failure> {
     report(&path, &about, &digest, to_standard)
 }
 
-/// The pairs of the input. No file is replaced because a command before us failed.
+/// The pairs of the input.
 fn pairs_for(input: Input, output: &Output, force: bool, path: &Path) -> Result<Pairs, Failure> {
     let from_standard = input.is_standard();
     let pairs = Pairs::read(input)?;
-    if from_standard && pairs.was_empty && output.replaces() && !force {
-        return Err(Failure::Trouble(format!(
-            "standard input is empty, and {} is there: --force replaces it by an empty column",
-            named(path)
-        )));
+    if from_standard && pairs.was_empty && !force {
+        not_by_nothing(output, path, "column")?;
     }
     Ok(pairs)
 }
 
+/// No file is replaced because a command before us failed and nothing came of it.
+pub fn not_by_nothing(output: &Output, path: &Path, what: &str) -> Result<(), Failure> {
+    if !output.replaces() {
+        return Ok(());
+    }
+    Err(Failure::Trouble(format!(
+        "standard input is empty, and {} is there: --force replaces it by an empty {what}",
+        named(path)
+    )))
+}
+
 fn column_of(pairs: &Pairs, power: u32, name: &str) -> Result<Vec<u8>, Failure> {
-    let refused = |refusal| refused(pairs, name, refusal);
+    let refused = |refusal| pairs.passed_over.refused(&pairs.ids, name, refusal);
     // No column is empty, so the first call asks for room.
     let needed = match signalfern::write(&pairs.ids, &pairs.values, power, &mut []) {
         Err(Refusal::Room { needed }) => needed,
@@ -83,32 +91,8 @@ fn column_of(pairs: &Pairs, power: u32, name: &str) -> Result<Vec<u8>, Failure> 
     Ok(column)
 }
 
-/// A refusal by the library, with the line and the ids it is about.
-fn refused(pairs: &Pairs, name: &str, refusal: Refusal) -> Failure {
-    let code = (refusal.number(), refusal.name());
-    let place = |index: usize| format!("{name}: line {}", pairs.line_of(index));
-    match refusal {
-        Refusal::Order { index } if index > 0 => {
-            let (before, id) = (pairs.ids[index - 1], pairs.ids[index]);
-            let line = pairs.line_of(index - 1);
-            let hint = if id == before {
-                "an id may stand once"
-            } else {
-                "sort the lines by id: sort -n"
-            };
-            let sentence = format!("id {id} is not above id {before} of line {line}; {hint}");
-            Failure::refused_as(place(index), code, sentence)
-        }
-        Refusal::Range { index } => {
-            let id = pairs.ids[index];
-            let sentence = format!("id {id} is above the greatest allowed, {MAX_ID}");
-            Failure::refused_as(place(index), code, sentence)
-        }
-        _ => Failure::refused(name, refusal),
-    }
-}
-
-fn report(path: &Path, about: &str, digest: &Digest, to_standard: bool) -> Result<(), Failure> {
+/// Tells what was written, where the output itself is not read.
+pub fn report(path: &Path, about: &str, digest: &Digest, to_standard: bool) -> Result<(), Failure> {
     let name = if to_standard {
         "standard output".to_string()
     } else {
