@@ -1,6 +1,8 @@
-// The documents' cases for the writer, and lists beside them, each written by the library and by the second writer.
+// The documents' cases for the writer, and lists beside them, each written by the library and by the second writer; and numbers, fetched
+// by both.
 mod both;
 mod document;
+mod fetching;
 mod say;
 
 use lists::Run;
@@ -105,5 +107,6 @@ fn main() {
     let t = document::lines();
     let t = t.and(one_block());
     let t = t.and(more_blocks());
-    say::total(t.and(widths()));
+    let t = t.and(widths());
+    say::total(t.and(fetching::numbers()));
 }

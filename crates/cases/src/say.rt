@@ -42,15 +42,23 @@ pub fn case(name: &[u8], right: bool) -> Tally {
     Tally::none().with(right)
 }
 
-// A line for several lists, each written by both writers.
-pub fn lists(name: &[u8], t: Tally) -> Tally {
+// A line for several cases, each done twice.
+fn by_both(name: &[u8], done: &[u8], t: Tally) -> Tally {
     text(name);
     text(b": ");
     io::print_decimal(1, t.cases);
-    text(b" written by both, ");
+    text(done);
     io::print_decimal(1, std::num::wrapping_sub_u64(t.cases, t.wrong));
     text(b" agree\n");
     t
+}
+
+pub fn lists(name: &[u8], t: Tally) -> Tally {
+    by_both(name, b" written by both, ", t)
+}
+
+pub fn numbers(name: &[u8], t: Tally) -> Tally {
+    by_both(name, b" fetched by both, ", t)
 }
 
 pub fn total(t: Tally) {

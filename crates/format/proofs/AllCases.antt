@@ -1,5 +1,6 @@
--- Every computed case about the definitions, in one statement: document 01's starred table, both sides of each refusal's line, and the
--- divisor of document 02, [2].
+-- Every computed case about the definitions, in one statement: document 01's starred table, both sides of each refusal's line, and of
+-- document 02 the next candidate ([1]), the divisor ([2]), the places ([4]), the bytes of a fetch ([5]), the probes ([8]) and a correction
+-- on top ([10]).
 -- (It is the first of these files to be checked, so that a slip in a definition shows as the case that it breaks.) Assumes nothing.
 use Rattle.format.proofs.Starred.{Starred, starred}
 use Rattle.format.proofs.Pins.{WriterCases, writer-cases, DivisorCases, divisor-cases, HeaderCases, header-cases}
@@ -9,6 +10,7 @@ use Rattle.format.proofs.PinsLayered.{LayeredCases, layered-cases, Laye
 use Rattle.format.proofs.PinsSets.{SetCases, set-cases, SetCheckCases, set-check-cases, SetFindCases, set-find-cases}
 use Rattle.format.proofs.PinsSteps.{DamageCases, damage-cases, StepCases, step-cases, WalkCases, walk-cases}
 use Rattle.format.proofs.PinsProbes.{HalvingCases, halving-cases, ProbeCases, probe-cases}
+use Rattle.format.proofs.PinsTaken.{TakenCases, taken-cases}
 
 pub record AllCases : Type 0 where
   pub starred-table : Starred
@@ -30,6 +32,7 @@ pub record AllCases : Type 0 where
   pub set-table : SetCases
   pub set-check-table : SetCheckCases
   pub set-find-table : SetFindCases
+  pub taken-table : TakenCases
 
 pub all-cases : AllCases
 all-cases =
@@ -53,4 +56,5 @@ all-cases =
       set-table = set-cases;
       set-check-table = set-check-cases;
       set-find-table = set-find-cases;
+      taken-table = taken-cases;
     }

@@ -4,7 +4,7 @@ use Rattle.format.specs.Kit.{bind, onesIn}
 use Rattle.format.specs.Refusals.{andThen, need, given, needNone}
 use Rattle.format.specs.Bytes.{bytesOf, countFrom, digits, same, fromDigits, lowAt, highAt}
 use Rattle.format.specs.HeaderNumbers.{groups, number, above, readGroups, readNumber, gotAt, numberAt, numbersAt}
-use Rattle.format.specs.Bits.{bitOf, gather, tabulate, packed, bitAt, fetched}
+use Rattle.format.specs.Bits.{bitOf, gather, tabulate, packed, bitAt, fetched, fetchedBytes}
 use Rattle.format.specs.Ids.{push, runs, kindOf, byKind, rankBytes, dataBytes, blockBytes, bitmap, countBelow, rankTable, blockData, blockOf, endBlock}
 use Rattle.format.specs.Ids.{jumpsFrom, notTwo, jumps, entryBytes, blocks, idSection}
 use Rattle.format.specs.IdsRead.{shorts, placesIn, readRuns, idsOf}
@@ -27,7 +27,7 @@ use Rattle.format.specs.SetCalls.{blocksFrom, setIds, setCheck, memberIn
 
 unfoldable pub computing : Type 0
 unfolding bind onesIn andThen need given needNone bytesOf countFrom digits same fromDigits lowAt highAt groups number above readGroups readNumber
-    gotAt numberAt numbersAt bitOf gather tabulate packed bitAt fetched push runs kindOf byKind rankBytes dataBytes blockBytes bitmap countBelow
+    gotAt numberAt numbersAt bitOf gather tabulate packed bitAt fetched fetchedBytes push runs kindOf byKind rankBytes dataBytes blockBytes bitmap countBelow
     rankTable blockData blockOf endBlock jumpsFrom notTwo jumps entryBytes blocks idSection shorts placesIn readRuns idsOf leastOf mostOf smallest
     greatest spread gcdIn gcd gcdFrom differences divisor bitsIn bitLength width stored valueAt scaled signed64 numberOf editions editionIn highFirst
     codec headOf headNumbers column notAbove orderFault rangeFault writeAs writeReply openColumn headFrom headOk idPart valuePart valueIn valueOf

@@ -10,6 +10,7 @@ pub mod PinsProbes
 pub mod PinsNext
 pub mod PinsLayered
 pub mod PinsSets
+pub mod PinsTaken
 pub mod Demands
 pub mod Meaning
 pub mod MeaningValues
@@ -20,6 +21,7 @@ pub mod Stores
 pub mod Digits
 pub mod Runs
 pub mod Bits
+pub mod Taken
 pub mod Section
 pub mod Header
 pub mod Minimal

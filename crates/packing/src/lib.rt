@@ -1,11 +1,18 @@
 // Numbers of w bits each, packed into bytes high bit first.
 ghost use mathlib.Core.Path.{_≡_};
-ghost use Prim.Native.Nat.{ℕ, _+_, _-_, _*_, _/_, _%_, _^_, _≤_, _<_, min};
+ghost use Prim.Native.Nat.{ℕ, _+_, _-_, _*_, _/_, _%_, _^_, _≤_, _<_};
 ghost use lib.ListN.{length};
 ghost use Rattle.format.specs.Limits.{maxCount, maxWidth};
-ghost use Rattle.format.specs.Bits.{bitAt, gather, fetched, packedBytes};
+ghost use Rattle.format.specs.Bits.{bitAt, gather, bitBytes, fetched, fetchedBytes, packedBytes};
 ghost use Rattle.packing.specs.Turned.{turned};
+ghost use Rattle.packing.specs.Ends.{EndsOf};
 ghost use Rattle.packing.specs.Stream.{Stored, Pushed, Finished};
+
+// A number that was fetched, and how many bytes were taken for it.
+pub struct Taken {
+    pub number: u64,
+    pub bytes: usize,
+}
 
 // Numbers that are written one after the other: at bytes are full, and have bits wait, as the number acc.
 pub struct Pending {
@@ -14,14 +21,8 @@ pub struct Pending {
     pub acc: u64,
 }
 
-fn least(a: usize, b: usize) -> usize
-    ensures { λ r. ⌜ r ≡ min a b ⌝ }
-{
-    if a < b { a } else { b }
-}
-
 fn wide(b: u8) -> u64
-    ensures { λ r. ⌜ r ≡ b ⌝ }
+    ensures { λ r. ⌜ (r ≡ b) × (r < 256) ⌝ }
 {
     b as u64
 }
@@ -66,24 +67,6 @@ pub fn skip_of(i: usize, w: usize) -> usize
     ((i & 7) * w) & 7
 }
 
-// The number in the w bits of s that follow the first skip bits of its byte b.
-fn read(s: &[u8], b: usize, skip: usize, w: usize) -> u64
-    requires { ⌜ (skip < 8) × (w ≤ 64) × (b * 8 + skip + w ≤ 8 * length (now s)) ⌝ }
-    ensures { λ r. ⌜ r ≡ gather (bitAt (now (s .entry))) (b * 8 + skip) w ⌝ }
-{
-    let mut acc: u64 = 0;
-    let mut at = skip;
-    let end = skip + w;
-    while at < end {
-        let room = 8 - (at & 7);
-        let n = least(room, end - at);
-        let part = field(wide(s[b + (at >> 3)]), room - n, n);
-        acc = joined(acc, n, part);
-        at += n;
-    }
-    acc
-}
-
 // The eight bytes of x in the other order.
 fn swapped(x: u64) -> u64
     ensures { λ r. ⌜ r ≡ turned 8 x ⌝ }
@@ -122,37 +105,104 @@ pub fn window(s: &[u8], at: usize, skip: usize) -> u64
     eight_at(s, at) << skip
 }
 
-// The i-th number of w bits in s: from eight bytes at once if they hold it whole, else byte by byte.
-pub fn fetch(s: &[u8], w: usize, i: usize) -> u64
-    requires { ⌜ (w ≤ 64) × (i * w + w ≤ 8 * length (now s)) ⌝ }
-    ensures { λ r. ⌜ r ≡ fetched (now (s .entry)) w i ⌝ }
-{
-    let b = byte_of(i, w);
-    let skip = skip_of(i, w);
-    if w == 0 {
-        return 0;
-    }
-    if skip + w <= 64 {
-        if 8 <= s.len() - b {
-            return middle(eight_at(s, b), skip, w);
-        }
-    }
-    read(s, b, skip, w)
+// The ends of a byte string: its first k bytes and its last k, each as a number low byte first.
+struct Ends {
+    front: u64,
+    back: u64,
+    k: usize,
 }
 
-// Number i of the n of w bits in s, which starts after the first skip bits of byte at: from one window while 64 are left.
+// The ends of the bytes that w bits touch: all of them are in one or in both. The loads go by w, so that no branch hangs on the index.
+fn ends_of(s: &[u8], w: usize) -> Ends
+    requires { ⌜ (0 < w) × (w ≤ 64) × (w ≤ 8 * length (now s)) × (8 * length (now s) ≤ w + 14) ⌝ }
+    ensures { λ r. ⌜ EndsOf (now (s .entry)) r ⌝ }
+{
+    let n = s.len();
+    if w <= 8 {
+        return Ends {
+            front: wide(s[0]),
+            back: wide(s[n - 1]),
+            k: 1,
+        };
+    }
+    if w <= 24 {
+        return Ends {
+            front: numbers::short_at(s, 0),
+            back: numbers::short_at(s, n - 2),
+            k: 2,
+        };
+    }
+    if w <= 56 {
+        return Ends {
+            front: numbers::int_at(s, 0),
+            back: numbers::int_at(s, n - 4),
+            k: 4,
+        };
+    }
+    Ends {
+        front: numbers::long_at(s, 0),
+        back: numbers::long_at(s, n - 8),
+        k: 8,
+    }
+}
+
+// The number of w bits that x begins, from its first bit on, and y ends, at its last: where both have a bit, it is the same.
+fn met(x: u64, y: u64, w: usize) -> u64
+    requires { ⌜ (0 < w) × (w ≤ 64) ⌝ }
+    ensures { λ r. ⌜ ((n u v : ℕ) → u ≤ v → x / 2 ^ (64 - w) ≡ n / 2 ^ u * 2 ^ u → y % 2 ^ w ≡ n % 2 ^ v → r ≡ n) ⌝ }
+{
+    (x >> (64 - w)) | (y & (u64::MAX >> (64 - w)))
+}
+
+// The number in the w bits of s after its first skip ones, where s has the bytes that they touch and no others. The first byte is trimmed
+// by skip bits, the last by those that are left over.
+fn number_in(s: &[u8], skip: usize, w: usize) -> u64
+    requires { ⌜ (skip < 8) × (0 < w) × (w ≤ 64) × (length (now s) ≡ bitBytes (skip + w)) ⌝ }
+    ensures { λ r. ⌜ r ≡ gather (bitAt (now (s .entry))) skip w ⌝ }
+{
+    let spare = 8 * s.len() - skip - w;
+    let e = ends_of(s, w);
+    let x = swapped(e.front) << skip;
+    let y = swapped(e.back) >> (64 - 8 * e.k + spare);
+    met(x, y, w)
+}
+
+// The i-th number of w bits in s (document 02, [5]). Lent are the bytes that its bits touch, so no others can be read.
+pub fn fetch(s: &[u8], w: usize, i: usize) -> Taken
+    requires { ⌜ (w ≤ 64) × (i ≤ maxCount) × (i * w + w ≤ 8 * length (now s)) ⌝ }
+    ensures { λ r. ⌜ (r .number ≡ fetched (now (s .entry)) w i) × (r .bytes ≡ fetchedBytes w i) × (r .bytes ≤ 9) ⌝ }
+{
+    if w == 0 {
+        return Taken {
+            number: 0,
+            bytes: 0,
+        };
+    }
+    let bit = i * w;
+    let start = bit >> 3;
+    let end = (bit + w + 7) >> 3;
+    let touched = &s[start..end];
+    Taken {
+        number: number_in(touched, bit & 7, w),
+        bytes: touched.len(),
+    }
+}
+
+// Number i of the n of w bits in s, which starts after the first skip bits of byte at: from eight bytes at once while 64 are left.
 pub fn next_of(s: &[u8], w: usize, i: usize, n: usize, at: usize, skip: usize) -> u64
     requires { ⌜ (w ≤ 64) × (i < n) × (n * w ≤ 8 * length (now s)) × (at * 8 + skip ≡ i * w) × (skip < 8) ⌝ }
     ensures { λ r. ⌜ r ≡ fetched (now (s .entry)) w i ⌝ }
 {
-    if 0 < w {
-        if w <= 57 {
-            if 64 <= n - i {
-                return middle(window(s, at, skip), 0, w);
-            }
+    if w == 0 {
+        return 0;
+    }
+    if 64 <= n - i {
+        if skip + w <= 64 {
+            return middle(eight_at(s, at), skip, w);
         }
     }
-    fetch(s, w, i)
+    let end = at + ((skip + w + 7) >> 3);
+    number_in(&s[at..end], skip, w)
 }
 
 // The byte of v above its k low bits.

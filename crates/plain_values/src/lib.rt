@@ -75,9 +75,9 @@ pub fn put(out: &mut [u8], values: &[i64], fields: Fields)
 
 // Step 7: the value of ordinal i, of n in a section.
 pub fn value_at(section: &[u8], n: u64, fields: Fields, i: u64) -> Fetched
-    requires { ⌜ (codec plain .fieldsOk n (fieldsOf fields) (length (now section)) ≡ true) × (i < n) ⌝ }
+    requires { ⌜ (n ≤ maxCount) × (codec plain .fieldsOk n (fieldsOf fields) (length (now section)) ≡ true) × (i < n) ⌝ }
     ensures { λ r. ⌜ fetchedOf r ≡ codec plain .value n (fieldsOf fields) (now (section .entry)) i ⌝ }
 {
-    let stored = packing::fetch(section, fields.width as usize, i as usize);
+    let stored = packing::fetch(section, fields.width as usize, i as usize).number;
     scaling::value_of(fields.smallest, fields.divisor, stored)
 }

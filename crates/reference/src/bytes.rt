@@ -34,7 +34,7 @@ pub fn value(values: &[u64], i: u64) -> u64 {
     if at < values.len() { values[at] } else { ZERO }
 }
 
-fn byte(s: &[u8], i: u64) -> u64 {
+pub fn byte(s: &[u8], i: u64) -> u64 {
     let at = i as usize;
     if at < s.len() { wide(s[at]) } else { 0 }
 }

@@ -1,7 +1,8 @@
 // A second writer, from documents 01 and 02 alone and in another way than the library's: block number after block number, place after place
-// and bit after bit, every length what the same functions put on no bytes. It shares no function with the library, and promises
-// nothing but to be safe.
+// and bit after bit, every length what the same functions put on no bytes; and a second fetch. It shares no function with the library, and
+// promises nothing but to be safe.
 mod bytes;
+pub mod fetching;
 mod header;
 mod ids;
 mod values;

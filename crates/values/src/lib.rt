@@ -67,7 +67,7 @@ pub fn put(out: &mut [u8], edition: Edition, values: &[i64], fields: Fields)
 
 // Step 7: the value of ordinal i, of n.
 pub fn value_at(section: &[u8], edition: Edition, n: u64, fields: Fields, i: u64) -> Fetched
-    requires { ⌜ (codec (editionOf edition) .fieldsOk n (fieldsOf fields) (length (now section)) ≡ true) × (i < n) ⌝ }
+    requires { ⌜ (n ≤ maxCount) × (codec (editionOf edition) .fieldsOk n (fieldsOf fields) (length (now section)) ≡ true) × (i < n) ⌝ }
     ensures { λ r. ⌜ fetchedOf r ≡ codec (editionOf edition) .value n (fieldsOf fields) (now (section .entry)) i ⌝ }
 {
     match edition {

@@ -81,7 +81,8 @@ value-at-requires c κs =
     let l = (rw (p .met .given .1) at (p .before .before .walk .ensures .listed)) .0 in
     let i = rw (p .before .before .before .ask-of .ensures .0 .count) at l in
     let v = value-length (parted (c .before .before .before .before .before .before .before .before)) in
-    (ap (codec (h .edition) .fieldsOk (h .count) (h .fields)) v ∙ head-facts h (s .pre .0) .fields, i)
+    let f = head-facts h (s .pre .0) in
+    (f .count, ap (codec (h .edition) .fieldsOk (h .count) (h .fields)) v ∙ f .fields, i)
 
 returns-3 : tie.Need-returns-3
 returns-3 c =

@@ -1,5 +1,5 @@
 -- `plain_values::value_at` meets its contract. Assumes nothing.
-use Rattle.format.specs.Kit.{sym, ap, _∙_, ℕ, length}
+use Rattle.format.specs.Kit.{sym, ap, _∙_, ℕ, arith, length}
 use Rattle.format.specs.HeaderNumbers.{unzigzag}
 use Rattle.format.specs.Values.{valueAt}
 use Rattle.format.specs.Codec.{signed64}
@@ -10,18 +10,18 @@ use Rattle.plain_values.proofs.value_at.Statement.{statement}
 use Rattle.plain_values.proofs.value_at.Tie as tie
 
 rules : (s : tie.Start) → Rules (s .args .n) (fieldsOf (s .args .fields)) (length (s .args .section .now))
-rules s = rules-kept _ _ _ (s .pre .0)
+rules s = rules-kept _ _ _ (s .pre .1)
 
 fetch-requires : tie.Need-fetch-requires
 fetch-requires c κs =
     let s = c .before in
-    (rules s .narrow, inside (s .args .section .now) (rules s) (s .args .i) (s .pre .1))
+    (rules s .narrow, omega arith, inside (s .args .section .now) (rules s) (s .args .i) (s .pre .2))
 
 returns : tie.Need-returns
 returns c =
     let a = c .before .before .before .args in
     c .value-of .ensures
-    ∙ ap (λ (x : ℕ). signed64 (valueAt (unzigzag (a .fields .smallest)) (a .fields .divisor) x)) (c .before .fetch .ensures)
+    ∙ ap (λ (x : ℕ). signed64 (valueAt (unzigzag (a .fields .smallest)) (a .fields .divisor) x)) (c .before .fetch .ensures .0)
     ∙ sym (plain-value (a .n) (fieldsOf (a .fields)) (a .section .now) (a .i))
 
 pub value-at-spec : {M : Type 1} → statement M

@@ -1,0 +1,74 @@
+//! Stored numbers by index (document 02, [5]): at every width and from every place in a byte, a call
+//! has the number of its own bits, whatever stands beside them.
+
+mod common;
+
+use common::parts::{self, Parts};
+use common::{same, Random};
+use signalfern::Cursor;
+use signalfern_reference::Answer;
+
+/// Enough that a number starts at each place in a byte that its width leads to, and once more.
+const COUNT: usize = 17;
+
+/// The ids 0 to 16, with any value section. The smallest value is -2^63 and the divisor 1, so that
+/// every number of 64 bits has a value.
+fn column(width: usize, byte: impl FnMut(usize) -> u8) -> Parts {
+    let ids: Vec<u32> = (0..COUNT as u32).collect();
+    let written = signalfern::write_to_vec(&ids, &[i64::MIN; COUNT], 9).unwrap();
+    let mut parts = Parts::of(&written);
+    parts.numbers[parts::WIDTH] = width as u64;
+    parts.values = (0..(COUNT * width).div_ceil(8)).map(byte).collect();
+    parts
+}
+
+/// The value of id `i` by a look-up and as the next candidate, each beside the reference.
+#[track_caller]
+fn value(parts: &Parts, i: usize) -> i64 {
+    let bytes = parts.bytes_with_lengths();
+    let Ok(Answer::Found { ordinal, value, .. }) = same::look_up(&bytes, i as u32) else {
+        panic!("id {i} is listed");
+    };
+    assert_eq!(ordinal, i as u64);
+    let next = same::next_from(&mut Cursor::new(), &bytes, i as u32).unwrap();
+    let next = next.map(|next| (next.id, next.ordinal, next.value));
+    assert_eq!(next, Some((i as u32, ordinal, value)));
+    value
+}
+
+#[test]
+fn each_number_is_that_of_its_bits() {
+    let mut random = Random::new(51);
+    for width in 0..=64 {
+        for parts in [
+            column(width, |_| 0xFF),
+            column(width, |k| (k * 37 + 5) as u8),
+            column(width, |_| random.next() as u8),
+        ] {
+            for (i, stored) in parts.stored().into_iter().enumerate() {
+                let expected = i64::MIN.wrapping_add_unsigned(stored);
+                assert_eq!(value(&parts, i), expected, "width {width}, number {i}");
+            }
+        }
+    }
+}
+
+#[test]
+fn bits_beside_it_do_not_matter() {
+    let mut random = Random::new(52);
+    for width in 0..=64 {
+        let parts = column(width, |_| random.next() as u8);
+        for i in 0..COUNT {
+            let own = i * width..(i + 1) * width;
+            let mut turned = parts.clone();
+            for j in (0..8 * turned.values.len()).filter(|j| !own.contains(j)) {
+                turned.values[j / 8] ^= 128 >> (j % 8);
+            }
+            assert_eq!(
+                value(&turned, i),
+                value(&parts, i),
+                "width {width}, number {i}"
+            );
+        }
+    }
+}
