@@ -26,7 +26,7 @@ static const struct refusal refusals[] = {
     {"HEADER", "the numbers of the header break a rule (a limit, or sizes that do not agree)"},
     {"LENGTH", "the header tells of more or fewer bytes than there are: the column is cut off or "
                "something follows it"},
-    {"BUFFER", "the buffers are too short for the pairs that the header tells of"},
+    {"BUFFER", "a lent list is too short for what goes into it (the number is the places needed)"},
     {"DAMAGED", "the header is sound, but what follows is not the column of any list of pairs"},
     {"ID", "the id asked for is above the greatest allowed, 2147352575"},
     {"BROKEN", "the look-up met bytes that cannot be right: the column is damaged"},

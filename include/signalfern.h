@@ -2,16 +2,15 @@
  * Signalfern: score columns.
  *
  * A column is a byte string that holds n pairs: an id (0 to 2147352575, strictly ascending) and a
- * signed 64-bit value. It can be written, checked, read whole, asked for one id, walked over from id
- * to id, and overlaid with a correction. x86-64 Linux.
+ * signed 64-bit value. It can be written, checked, read whole, asked for one id or for a page of them,
+ * walked over from id to id, and overlaid with a correction. x86-64 Linux.
  *
  *     cc program.c $(pkg-config --cflags --libs signalfern)     after `make install`
  *
- * Fourteen calls are proved to do what is said here, on every input: signalfern_write, _check, _read,
- * _look_up, _open, _look_up_in, _next, _next_in, _look_up_layered, _look_up_layered_in, _layered_values,
- * _set_write, _set_check and _set_find. They alone are in libsignalfern_c.a, which the Rattle kit makes. Four more stand at
- * the end, for names, sentences and the version: plain C, tested and not proved (c/names.c). The
- * installed libsignalfern.a and libsignalfern.so have all eighteen.
+ * The calls are proved to do what is said here, on every input, and they alone are in
+ * libsignalfern_c.a, which the Rattle kit makes. Those after the line "From here on plain C", for names,
+ * sentences and the version, are tested and not proved (c/names.c). The installed libsignalfern.a and
+ * libsignalfern.so have all of them.
  *
  * For every proved call:
  *
@@ -21,11 +20,12 @@
  * - A length counts elements (ids, values or bytes), not bytes of memory. The pointer before it
  *   leads to that many elements, which the caller owns until the call returns. A pointer may be
  *   NULL only where its length is 0; it is then not followed.
- * - A pointer is aligned as its type asks: 4 bytes for uint32_t, 8 for int64_t, none for uint8_t.
- *   This holds where the length is 0 too (NULL is aligned).
- * - What a call writes to (out; ids and values of a reading) overlaps nothing else that is lent to
- *   the same call, and no other thread uses it during the call. What a call only reads may be read
- *   by others at the same time. No lent array takes up more than 2^63 - 1 bytes.
+ * - A pointer is aligned as its type asks: 4 bytes for uint32_t, 8 for int64_t and uint64_t, none for
+ *   uint8_t. This holds where the length is 0 too (NULL is aligned).
+ * - What a call writes to (out; ids and values of a reading; ordinals, values and kinds of a page)
+ *   overlaps nothing else that is lent to the same call, and no other thread uses it during the call.
+ *   What a call only reads may be read by others at the same time. No lent array takes up more than
+ *   2^63 - 1 bytes.
  * - Nothing is allocated, nothing is kept between calls, and no call waits.
  *
  * Whoever keeps to the pointer rules above gets what is promised here. C cannot test them.
@@ -70,7 +70,8 @@ enum {
     SIGNALFERN_EDITION = 9,  /* the first header number is not 1 */
     SIGNALFERN_HEADER = 10,  /* a header rule is broken */
     SIGNALFERN_LENGTH = 11,  /* header, id section and value section are not the byte count */
-    SIGNALFERN_BUFFER = 12,  /* the ids or the values buffer is shorter than n; with n */
+    SIGNALFERN_BUFFER = 12,  /* the ids or the values buffer is shorter than n, or a list for a page's
+                                answers shorter than its ids; with the places needed */
     SIGNALFERN_DAMAGED = 13, /* the bytes are no column of any pair list */
     SIGNALFERN_ID = 14,      /* the looked-up id, or the target, is above SIGNALFERN_MAX_ID */
     SIGNALFERN_BROKEN = 15,  /* a step of the look-up fails: the bytes are damaged */
@@ -96,6 +97,13 @@ typedef struct {
     uint64_t words;   /* Found or absent: how many 64-bit words of a bitmap were looked at, 0 to 1024. */
     uint64_t probes;  /* Found or absent: how many entries of a sparse block were probed, 0 to 12. */
 } signalfern_answer;
+
+/* What signalfern_look_up_page answers beside the lists that it fills. */
+typedef struct {
+    uint64_t refusal; /* 0: done. Otherwise SIGNALFERN_BUFFER. */
+    uint64_t number;  /* How many ids there are: done, the places filled; refused, those needed. */
+    uint64_t words;   /* Done: the words of all its look-ups, summed modulo 2^64. Refused: 0. */
+} signalfern_page;
 
 /*
  * A column opened once, for many questions. It holds numbers alone and no pointer: it may be copied,
@@ -225,6 +233,25 @@ signalfern_column signalfern_open(const uint8_t *bytes, size_t len);
  */
 signalfern_answer signalfern_look_up_in(signalfern_column column,
                                         const uint8_t *bytes, size_t len, uint32_t id);
+
+/*
+ * Looks a page of ids up in one call, which opens the header once: the sooner way for many ids. The ids
+ * may repeat and stand in any order.
+ *
+ * Done: the first ids_len places of the three lists were written, and those after them stay as they
+ * were. Place i holds what signalfern_look_up(bytes, len, ids[i]) answers: in kinds[i] SIGNALFERN_FOUND,
+ * SIGNALFERN_ABSENT or the refusal (7 to 11, 14, 15), without the number that comes with it; in
+ * ordinals[i] and values[i] the ordinal and the value, and 0 where the id is not found. Where the
+ * header is refused, every place holds that refusal, but one whose id is above the limit holds 14. A
+ * refused place counts no words. No ids: done, and no byte is read.
+ *
+ * Refused: 12 where a list is shorter than the ids, before any byte is read or written.
+ */
+signalfern_page signalfern_look_up_page(const uint8_t *bytes, size_t len,
+                                        const uint32_t *ids, size_t ids_len,
+                                        uint64_t *ordinals, size_t ordinals_len,
+                                        int64_t *values, size_t values_len,
+                                        uint8_t *kinds, size_t kinds_len);
 
 /*
  * Finds the first listed id at or above the target, for a walk: the cursor that an answer brings is

@@ -53,6 +53,9 @@ impl<'a> Column<'a> {
     /// The first that applies of [`Refusal::Short`] and [`Refusal::Number`] (by the first bad
     /// number), [`Refusal::Edition`] (as soon as the first number is read), [`Refusal::Header`] and
     /// [`Refusal::Length`]. The sections are not checked: see [`check`](crate::check).
+    // Compiled into its caller, the numbers are put together anew for each look-up, by words that do not
+    // fit those they are then read by, and each look-up waits for some 10 ns.
+    #[inline(never)]
     pub fn open(bytes: &'a [u8]) -> Result<Self, Refusal> {
         let numbers = ffi::open(bytes);
         match numbers.refusal {

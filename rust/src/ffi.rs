@@ -25,6 +25,14 @@ pub(crate) struct Answer {
 
 #[repr(C)]
 #[derive(Clone, Copy)]
+pub(crate) struct Page {
+    pub refusal: u64,
+    pub number: u64,
+    pub words: u64,
+}
+
+#[repr(C)]
+#[derive(Clone, Copy)]
 pub(crate) struct Column {
     pub refusal: u64,
     pub number: u64,
@@ -107,6 +115,18 @@ extern "C" {
     fn signalfern_look_up(bytes: *const u8, len: usize, id: u32) -> Answer;
     fn signalfern_open(bytes: *const u8, len: usize) -> Column;
     fn signalfern_look_up_in(column: Column, bytes: *const u8, len: usize, id: u32) -> Answer;
+    fn signalfern_look_up_page(
+        bytes: *const u8,
+        len: usize,
+        ids: *const u32,
+        ids_len: usize,
+        ordinals: *mut u64,
+        ordinals_len: usize,
+        values: *mut i64,
+        values_len: usize,
+        kinds: *mut u8,
+        kinds_len: usize,
+    ) -> Page;
     fn signalfern_next(cursor: Cursor, bytes: *const u8, len: usize, target: u32) -> Candidate;
     fn signalfern_next_in(
         column: Column,
@@ -192,6 +212,31 @@ pub(crate) fn open(bytes: &[u8]) -> Column {
 pub(crate) fn look_up_in(column: Column, bytes: &[u8], id: u32) -> Answer {
     // SAFETY: a slice with its own length, only read; the call takes any column.
     unsafe { signalfern_look_up_in(column, bytes.as_ptr(), bytes.len(), id) }
+}
+
+pub(crate) fn look_up_page(
+    bytes: &[u8],
+    ids: &[u32],
+    ordinals: &mut [u64],
+    values: &mut [i64],
+    kinds: &mut [u8],
+) -> Page {
+    // SAFETY: five slices with their own lengths; `ordinals`, `values` and `kinds` are borrowed for
+    // this call alone.
+    unsafe {
+        signalfern_look_up_page(
+            bytes.as_ptr(),
+            bytes.len(),
+            ids.as_ptr(),
+            ids.len(),
+            ordinals.as_mut_ptr(),
+            ordinals.len(),
+            values.as_mut_ptr(),
+            values.len(),
+            kinds.as_mut_ptr(),
+            kinds.len(),
+        )
+    }
 }
 
 pub(crate) fn next(cursor: Cursor, bytes: &[u8], target: u32) -> Candidate {

@@ -1,13 +1,13 @@
 //! Score columns: byte strings that hold pairs of an id and a signed 64-bit value, with the ids
 //! strictly ascending.
 //!
-//! There are eight calls on columns: [`write()`] a column, [`check`] one, [`read`] it whole, [`look_up`] one id,
-//! find the [`next()`] listed one, look an id up in a column with a correction on top
-//! ([`look_up_layered`]) and show the bytes that hold it ([`layered_values`]), and [`Column::open`] for
-//! many such questions to the same columns. Each is a thin wrapper of a call that is written and
-//! proved in Rattle: its answer, its refusal and every lent byte afterwards are those that document 01
-//! ("Full scope and exact rules") and the requests of document 02 fix, on every input. This wrapper,
-//! the C boundary below it and the compiler's back end are not proved; they are tested.
+//! There are nine calls on columns: [`write()`] a column, [`check`] one, [`read`] it whole, [`look_up`] one id or a
+//! page of them ([`look_up_page`]), find the [`next()`] listed one, look an id up in a column with a
+//! correction on top ([`look_up_layered`]) and show the bytes that hold it ([`layered_values`]), and
+//! [`Column::open`] for many such questions to the same columns. Each is a thin wrapper of a call that
+//! is written and proved in Rattle: its answer, its refusal and every lent byte afterwards are those
+//! that document 01 ("Full scope and exact rules") and the requests of document 02 fix, on every input.
+//! This wrapper, the C boundary below it and the compiler's back end are not proved; they are tested.
 //!
 //! Most programs want [`Checked`]: a column that was checked once, as a sorted map from ids to
 //! values.
@@ -54,6 +54,7 @@ mod error;
 mod ffi;
 mod layered;
 mod next;
+mod page;
 mod pairs;
 mod refusal;
 mod set;
@@ -64,6 +65,7 @@ pub use column::{Column, Header};
 pub use error::Error;
 pub use layered::{layered_values, look_up_layered, Layer, Layered, LayeredAnswer, LayeredRefusal};
 pub use next::{next, Candidate, Candidates, Cursor};
+pub use page::{look_up_page, look_up_page_to_vec, Page, PageAnswer};
 pub use pairs::Pairs;
 pub use refusal::Refusal;
 pub use set::{set_check, set_find, set_write, set_write_to_vec, Set};

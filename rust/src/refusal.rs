@@ -45,9 +45,10 @@ pub enum Refusal {
     Header,
     /// Header, id section and value section together are not the byte count.
     Length,
-    /// The ids or the values buffer is shorter than the column's count of pairs.
+    /// The ids or the values buffer is shorter than the column's count of pairs, or a list for a page's
+    /// answers is shorter than its ids.
     Buffer {
-        /// The count of pairs that the header claims.
+        /// The count of pairs that the header claims, or that of the ids.
         needed: usize,
     },
     /// The bytes are no column of any pair list.
@@ -207,7 +208,7 @@ impl fmt::Display for Refusal {
             ),
             Self::Buffer { needed } => write!(
                 f,
-                "the buffers are too short: the header tells of {needed} pairs"
+                "a lent list is too short for what goes into it: {needed} places are needed"
             ),
             Self::Damaged => write!(
                 f,

@@ -18,6 +18,48 @@ static int same_answer(signalfern_answer a, uint64_t kind, uint64_t ordinal, int
     return a.kind == kind && a.number == 0 && a.ordinal == ordinal && a.value == value && a.words == words && a.probes == probes;
 }
 
+static int same_page(signalfern_page page, uint64_t refusal, uint64_t number, uint64_t words)
+{
+    return page.refusal == refusal && page.number == number && page.words == words;
+}
+
+/* Ids 0 to 5000 at rank power 9, each with 7: place 600 is in the second word of its stride. */
+static int pages(void)
+{
+    PROMISE(sizeof(signalfern_page) == 24 && offsetof(signalfern_page, words) == 16);
+    static uint32_t ids[5000];
+    static int64_t values[5000];
+    static uint8_t bytes[1 << 14];
+    for (uint32_t i = 0; i < 5000; i++) {
+        ids[i] = i;
+        values[i] = 7;
+    }
+    size_t len = signalfern_write(ids, 5000, values, 5000, 9, bytes, sizeof bytes).number;
+    const uint32_t asked[] = {600, SIGNALFERN_MAX_ID + 1, 6000, 600};
+    uint64_t ordinals[] = {1, 2, 3, 4, 5};
+    int64_t scores[] = {1, 2, 3, 4, 5};
+    uint8_t kinds[] = {91, 92, 93, 94, 95};
+    /* A list that is too short: nothing is written, and no byte is read. */
+    PROMISE(same_page(signalfern_look_up_page(bytes, len, asked, 4, ordinals, 3, scores, 5, kinds, 5), SIGNALFERN_BUFFER, 4, 0));
+    PROMISE(same_page(signalfern_look_up_page(bytes, len, asked, 4, ordinals, 5, scores, 3, kinds, 5), SIGNALFERN_BUFFER, 4, 0));
+    PROMISE(same_page(signalfern_look_up_page(NULL, 0, asked, 4, ordinals, 5, scores, 5, NULL, 0), SIGNALFERN_BUFFER, 4, 0));
+    PROMISE(ordinals[0] == 1 && scores[0] == 1 && kinds[0] == 91);
+
+    PROMISE(same_page(signalfern_look_up_page(bytes, len, asked, 4, ordinals, 5, scores, 4, kinds, 5), 0, 4, 2 + 1 + 2));
+    const uint64_t ordinals_then[] = {600, 0, 0, 600, 5};
+    const int64_t scores_then[] = {7, 0, 0, 7, 5};
+    const uint8_t kinds_then[] = {SIGNALFERN_FOUND, SIGNALFERN_ID, SIGNALFERN_ABSENT, SIGNALFERN_FOUND, 95};
+    PROMISE(memcmp(ordinals, ordinals_then, sizeof ordinals) == 0);
+    PROMISE(memcmp(scores, scores_then, sizeof scores) == 0);
+    PROMISE(memcmp(kinds, kinds_then, sizeof kinds) == 0);
+
+    /* No header, and no ids. */
+    PROMISE(same_page(signalfern_look_up_page(NULL, 0, asked, 2, ordinals, 2, scores, 2, kinds, 2), 0, 2, 0));
+    PROMISE(kinds[0] == SIGNALFERN_SHORT && kinds[1] == SIGNALFERN_ID && ordinals[0] == 0 && scores[0] == 0);
+    PROMISE(same_page(signalfern_look_up_page(NULL, 0, NULL, 0, NULL, 0, NULL, 0, NULL, 0), 0, 0, 0));
+    return 0;
+}
+
 static int same_next(signalfern_candidate c, uint64_t kind, uint64_t id, uint64_t ordinal, int64_t value, uint32_t last)
 {
     return c.kind == kind && c.number == 0 && c.id == id && c.ordinal == ordinal && c.value == value && c.cursor.last == last;
@@ -307,5 +349,5 @@ int main(void)
     refused.refusal = SIGNALFERN_LENGTH;
     PROMISE(memcmp(&column, &refused, sizeof column) == 0);
     PROMISE(same_answer(signalfern_look_up_in(column, out, len, 4), SIGNALFERN_HEADER, 0, 0, 0, 0));
-    return next_candidates() || corrections() || refused_columns() || sets();
+    return pages() || next_candidates() || corrections() || refused_columns() || sets();
 }

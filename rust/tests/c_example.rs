@@ -64,6 +64,19 @@ something follows it
 }
 
 #[test]
+fn the_example_of_a_page() {
+    let printed = build_and_run(Path::new("examples/page.c"), &["-std=c99"]);
+    let expected = "\
+id 7: value 135, ordinal 2
+id 5: not listed
+id 0: value 150, ordinal 0
+id 7: value 135, ordinal 2
+id 2147352576: refused, ID
+";
+    assert_eq!(printed, expected);
+}
+
+#[test]
 fn the_boundary_is_as_the_header_says() {
     build_and_run(Path::new("rust/tests/boundary.c"), &["-std=c11"]);
 }

@@ -2,6 +2,7 @@
 
 mod common;
 
+use common::pages::look_up_exactly;
 use common::same;
 use signalfern::{Checked, Cursor, Layer, Refusal};
 
@@ -99,6 +100,20 @@ fn where_a_header_broke() {
         assert!(PAGE.contains(words), "{words}");
         assert_eq!(same::check(bytes), refused, "{words}");
     }
+}
+
+/// What the page says of a page of ids.
+#[test]
+fn a_page_of_ids() {
+    assert!(PAGE.contains(
+        "the ids 7, 5, 7 and 2147352576 give the kinds 0, 1, 0 and 14, the ordinals 2, 0, 2 and 0 and the \
+         values 135, 0, 135 and 0."
+    ));
+    let column = taken_apart().swap_remove(0);
+    let (lists, words) = look_up_exactly(&column, &[7, 5, 7, 2_147_352_576]);
+    assert_eq!((lists.kinds, words), (vec![0, 1, 0, 14], 0));
+    assert_eq!(lists.ordinals, [2, 0, 2, 0]);
+    assert_eq!(lists.values, [135, 0, 135, 0]);
 }
 
 /// What the page says of the next candidate: target, id and ordinal, or what else.

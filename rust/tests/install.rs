@@ -203,7 +203,7 @@ fn the_shared_library_shows_what_the_header_declares() {
         .filter_map(|before| before.rsplit([' ', '*']).next())
         .filter(|name| name.starts_with("signalfern_"))
         .collect();
-    assert_eq!(declared.len(), 18, "{declared:?}");
+    assert_eq!(declared.len(), 19, "{declared:?}");
 
     let symbols = |words: &[&str], file: &str| {
         let output = Command::new("nm")

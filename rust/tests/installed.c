@@ -52,6 +52,12 @@ int main(void)
     signalfern_column opened = signalfern_open(column, len);
     PROMISE(opened.refusal == 0 && opened.power == 9 && signalfern_smallest(opened.smallest) == -150);
     PROMISE(signalfern_look_up_in(opened, column, len, 3).kind == SIGNALFERN_ABSENT);
+    uint64_t ordinal;
+    int64_t value;
+    uint8_t kind;
+    signalfern_page page = signalfern_look_up_page(column, len, ids + 2, 1, &ordinal, 1, &value, 1, &kind, 1);
+    PROMISE(page.refusal == 0 && page.number == 1 && page.words == 0);
+    PROMISE(kind == SIGNALFERN_FOUND && ordinal == 2 && value == 135);
     signalfern_cursor cursor = {0};
     signalfern_candidate next = signalfern_next(cursor, column, len, 1);
     PROMISE(next.kind == SIGNALFERN_FOUND && next.id == 2 && next.value == 140 && next.cursor.last == 1);

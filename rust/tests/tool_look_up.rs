@@ -84,10 +84,9 @@ fn ids_from_a_file_or_standard_input() {
     let folder = Folder::new("ids");
     let column = folder.column("column", &[0, 2, 7], &[150, 140, 135]);
     let list = folder.put("ids", "7 2\n\n  # none\n5\t0 # these\n");
-    // Of the places 0, 2 and 7, 2 is probed first.
-    let answers = "2 140 ordinal 1 words 0 probes 1\n7 135 ordinal 2 words 0 probes 2\n\
-                   2 140 ordinal 1 words 0 probes 1\n5 absent words 0 probes 2\n\
-                   0 150 ordinal 0 words 0 probes 2\n";
+    // Costs are told of the id on the command line alone, which is asked for by itself.
+    let answers = "2 140 ordinal 1 words 0 probes 1\n\
+                   7 135 ordinal 2\n2 140 ordinal 1\n5 absent\n0 150 ordinal 0\n";
     let ran = run(&["look-up", &column, "2", "--ids", &list]).expect(0, &[]);
     assert_eq!(ran.out, answers);
     let ran = run_with(&["look-up", &column, "2", "-i-"], &folder.bytes("ids")).expect(0, &[]);
@@ -99,10 +98,7 @@ fn ids_from_a_file_or_standard_input() {
     let list = folder.put("ids", "7\nx1\n4294967296\n2\n");
     let ran = run(&["look-up", &column, "--ids", &list]);
     assert_eq!(ran.status, 1);
-    assert_eq!(
-        ran.out,
-        "7 135 ordinal 2 words 0 probes 2\n2 140 ordinal 1 words 0 probes 1\n"
-    );
+    assert_eq!(ran.out, "7 135 ordinal 2\n2 140 ordinal 1\n");
     assert!(
         ran.err
             .contains("ids: line 2: refusal 101, TEXT: `x1` is no id"),
@@ -116,4 +112,68 @@ fn ids_from_a_file_or_standard_input() {
         ran.err
     );
     run(&["look-up", &column, "--ids", "none"]).expect(2, &["cannot read none"]);
+}
+
+/// More ids than go into one call, in any order and with repeats: a line for each, in that order.
+#[test]
+fn many_ids() {
+    let folder = Folder::new("many_ids");
+    let listed: Vec<u32> = (0..70_000).filter(|id| id % 3 == 0).collect();
+    let values: Vec<i64> = listed.iter().map(|&id| i64::from(id) * 10).collect();
+    let column = folder.column("column", &listed, &values);
+    for count in [999, 1000, 1001, 2500] {
+        let ids: Vec<u32> = (0..count)
+            .map(|i| i * 7919 % 70_000 / 5 * 5)
+            .rev()
+            .collect();
+        let mut expected = String::new();
+        for id in &ids {
+            expected += &match id % 3 {
+                0 => format!("{id} {} ordinal {}\n", id * 10, id / 3),
+                _ => format!("{id} absent\n"),
+            };
+        }
+        // Some to a line.
+        let lines = ids.chunks(3).map(|ids| {
+            let words: Vec<String> = ids.iter().map(u32::to_string).collect();
+            words.join(" ") + "\n"
+        });
+        let list = folder.put("ids", lines.collect::<String>());
+        let ran = run(&["look-up", &column, "--ids", &list]).expect(0, &[]);
+        assert!(ran.out == expected, "{count}");
+    }
+}
+
+/// What is refused is told in the order of the lines too, and the ids around it are answered.
+#[test]
+fn refused_ids_in_their_order() {
+    let folder = Folder::new("refused_ids");
+    let mut bytes = signalfern::write_to_vec(&[0, 70_000], &[5, 6], 9).unwrap();
+    // The entry of block 1 leads past the section: BROKEN, where the file is not checked.
+    let at = bytes.len() - 1 - 2 * 8 + 4;
+    bytes[at] = 0xFF;
+    let column = folder.put("column", &bytes);
+    let list = folder.put("ids", "2147352576 0\nx\n70000\n4294967295 0 99999999999\n");
+    let ran = run(&["look-up", "--unchecked", &column, "--ids", &list]);
+    assert_eq!(
+        (ran.status, ran.out.as_str()),
+        (1, "0 5 ordinal 0\n0 5 ordinal 0\n")
+    );
+    let told = [
+        "is not checked",
+        "ids: line 1: id 2147352576: refusal 14, ID",
+        "ids: line 2: refusal 101, TEXT: `x` is no id",
+        "column: id 70000: refusal 15, BROKEN",
+        "ids: line 4: id 4294967295: refusal 14, ID",
+        "ids: line 4: id 99999999999: refusal 14, ID",
+    ];
+    assert_eq!(ran.err.lines().count(), told.len(), "{}", ran.err);
+    for (line, words) in ran.err.lines().zip(told) {
+        assert!(line.contains(words), "{line}");
+    }
+    // A line that is too long ends it, after those before it.
+    let long = [&b"0\n"[..], &vec![b'1'; 70_000]].concat();
+    let ran = run_with(&["look-up", "--unchecked", &column, "-i-"], &long);
+    assert_eq!((ran.status, ran.out.as_str()), (1, "0 5 ordinal 0\n"));
+    assert!(ran.err.contains("line 2: refusal 101, TEXT"), "{}", ran.err);
 }

@@ -198,9 +198,16 @@ fn progress_goes_to_a_terminal() {
         seen.contains("printing: ") && seen.contains(" of 300000 pairs, "),
         "{seen}"
     );
+    let slow_ids = "{ echo 2; sleep 1.4; echo 7 7; } > pipe";
+    let seen = on_terminal(&folder, slow_ids, "look-up small --ids pipe > got");
+    assert!(seen.contains("looking up pipe: 6 bytes"), "{seen}");
+    let answers = "2 140 ordinal 1\n7 135 ordinal 2\n7 135 ordinal 2\n";
+    assert_eq!(folder.bytes("got"), answers.as_bytes());
     // Not where the pairs themselves go to the terminal, and not into a file of messages.
     let seen = on_terminal(&folder, "true", "read small");
     assert!(!seen.contains("printing"), "{seen}");
+    let seen = on_terminal(&folder, slow_ids, "look-up small --ids pipe");
+    assert!(!seen.contains("looking up"), "{seen}");
     let seen = on_terminal(&folder, slow_list, "write pipe -o new 2> messages");
     assert!(!seen.contains("reading pipe"), "{seen}");
     assert_eq!(folder.bytes("messages"), b"");

@@ -11,6 +11,7 @@ use Rattle.format.proofs.PinsSets.{SetCases, set-cases, SetCheckCases, 
 use Rattle.format.proofs.PinsSteps.{DamageCases, damage-cases, StepCases, step-cases, WalkCases, walk-cases}
 use Rattle.format.proofs.PinsProbes.{HalvingCases, halving-cases, ProbeCases, probe-cases}
 use Rattle.format.proofs.PinsTaken.{TakenCases, taken-cases}
+use Rattle.format.proofs.PinsPage.{PageCases, page-cases}
 
 pub record AllCases : Type 0 where
   pub starred-table : Starred
@@ -33,6 +34,7 @@ pub record AllCases : Type 0 where
   pub set-check-table : SetCheckCases
   pub set-find-table : SetFindCases
   pub taken-table : TakenCases
+  pub page-table : PageCases
 
 pub all-cases : AllCases
 all-cases =
@@ -57,4 +59,5 @@ all-cases =
       set-check-table = set-check-cases;
       set-find-table = set-find-cases;
       taken-table = taken-cases;
+      page-table = page-cases;
     }

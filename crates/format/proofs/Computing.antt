@@ -24,6 +24,7 @@ use Rattle.format.specs.Next.{decides, inTurn, nextSteps, next, nextIn, 
 use Rattle.format.specs.SetBytes.{setKind, begins, past, missing, setList, setData, setBlockAs, setBlock, setBytes, setWrite}
 use Rattle.format.specs.SetCalls.{listLengthOk, setDataBytes, setDataFits, setDataOk, setPlaces, dataFrom, lengthFrom, kindFrom, blockFrom, setRun}
 use Rattle.format.specs.SetCalls.{blocksFrom, setIds, setCheck, memberIn, setFind}
+use Rattle.format.specs.Page.{placeKind, placeOrdinal, placeValue, placeWords, page, pageWords, pageReply, pageAfter}
 
 unfoldable pub computing : Type 0
 unfolding bind onesIn andThen need given needNone bytesOf countFrom digits same fromDigits lowAt highAt groups number above readGroups readNumber
@@ -36,4 +37,5 @@ unfolding bind onesIn andThen need given needNone bytesOf countFrom digits same 
     listedPlaces probes decides inTurn nextSteps next nextIn lastAfter firstFrom listNext inSequence
     ascFrom setKind begins past missing setList setData setBlockAs setBlock setBytes setWrite listLengthOk setDataBytes setDataFits setDataOk setPlaces
     dataFrom lengthFrom kindFrom blockFrom setRun blocksFrom setIds setCheck listed memberIn setFind
+    placeKind placeOrdinal placeValue placeWords page pageWords pageReply pageAfter
 computing = Unit {0}

@@ -11,6 +11,7 @@ pub mod PinsNext
 pub mod PinsLayered
 pub mod PinsSets
 pub mod PinsTaken
+pub mod PinsPage
 pub mod Demands
 pub mod Meaning
 pub mod MeaningValues
@@ -59,5 +60,6 @@ pub mod Never
 pub mod HeaderFaults
 pub mod InTurn
 pub mod Sequences
+pub mod Paged
 pub mod Retired
 pub mod Layered

@@ -1,9 +1,9 @@
 -- Document 02, [7]: refusal 5, OFFSET, is retired. It was "a block would start at 2147483647 or later"; no block of a list within the
 -- limits comes near that line, and no call gives 5 for any input. Assumes nothing.
-use Rattle.format.specs.Kit.{_≡_, refl, List, [], _∷_, _++_, append-assoc, ℕ, zero, suc, _+_, _*_, _≤_, _<_, zero-le, arith, ℤ, length, take}
+use Rattle.format.specs.Kit.{_≡_, refl, ap, List, [], _∷_, _++_, append-assoc, ℕ, zero, suc, _+_, _*_, _≤_, _<_, zero-le, arith, ℤ, length, take}
 use Rattle.format.specs.Kit.{drop, drop-at}
 use Rattle.format.specs.Limits.{maxBlocks, startLimit}
-use Rattle.format.specs.Refusals.{refused}
+use Rattle.format.specs.Refusals.{Outcome, done, refused}
 use Rattle.format.specs.Bytes.{bytesOf}
 use Rattle.format.specs.Ids.{Run, runs, blockOf, endBlock, jumps, entryBytes, blocks, idSection, startOf}
 use Rattle.format.specs.Runs.{AllFine, AscBlocks, endOf, totalBytes}
@@ -12,7 +12,8 @@ use Rattle.format.specs.Pairs.{Valid}
 use Rattle.format.specs.Writer.{writeAs}
 use Rattle.format.specs.Opening.{Opened, openColumn}
 use Rattle.format.specs.Check.{check, reading}
-use Rattle.format.specs.LookUp.{lookUp, lookUpIn}
+use Rattle.format.specs.LookUp.{Look, found, absent, lookUp, lookUpIn}
+use Rattle.format.specs.Page.{placeKind, page}
 use Rattle.format.specs.Next.{next, nextIn}
 use Rattle.format.specs.SetBytes.{setWrite}
 use Rattle.format.specs.SetCalls.{setIds, setCheck, setFind}
@@ -133,6 +134,20 @@ module _ (bytes : List ℕ) (w : ℕ) where
   pub set-find-never-5 : (id : ℕ) → setFind bytes id ≡ refused 5 w → ⊥
   unfolding setFind
   set-find-never-5 id = never 5 _ w (at-need 5 _ _ _ _ refl (at-then 5 _ _ set-not-5 (λ ids. at-done 5 _)))
+
+-- a page, and each of its kinds
+pub page-never-5 : (known : List Edition) (bytes ids : List ℕ) (o v k w : ℕ) → page known bytes ids o v k ≡ refused 5 w → ⊥
+unfolding page
+page-never-5 known bytes ids o v k w = never 5 _ w (at-need 5 _ _ _ _ refl (at-done 5 _))
+
+not-kind-5 : (x : Outcome Look) → ((w : ℕ) → x ≡ refused 5 w → ⊥) → placeKind x ≡ 5 → ⊥
+unfolding placeKind
+not-kind-5 (done (found o v w)) h e = omega arith
+not-kind-5 (done (absent w)) h e = omega arith
+not-kind-5 (refused why w) h e = h w (ap {B = Outcome Look} (λ (m : ℕ). refused m w) e)
+
+pub kind-never-5 : (known : List Edition) (bytes : List ℕ) (id : ℕ) → placeKind (lookUp known bytes id) ≡ 5 → ⊥
+kind-never-5 known bytes id = not-kind-5 (lookUp known bytes id) (λ w. look-up-never-5 known bytes w id)
 
 -- the type that the code answers: whatever keeps the contract of `Refusal::number` is not 5
 pub number-never-5 : (why : Re.Refusal) (r : ℕ) → r ≡ refusalNumber why → r ≡ 5 → ⊥

@@ -22,6 +22,7 @@ pub mod Next
 pub mod Layered
 pub mod SetBytes
 pub mod SetCalls
+pub mod Page
 pub mod Replies
 pub mod Runs
 pub mod Stores

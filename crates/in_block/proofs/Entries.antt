@@ -3,7 +3,7 @@ use Rattle.format.specs.Kit.{_≡_, refl, sym, ap, _∙_, subst, _⊎_, inl, in
 use Rattle.format.specs.Kit.{_<_, _≤_, add-zero, arith, add-one, ltb, getD, drop, drop-drop, lt-ltb, le-ltb}
 use Rattle.format.specs.Bytes.{lowAt}
 use Rattle.format.specs.IdsRead.{shorts}
-use Rattle.format.specs.LookUp.{Sought, halve, halving, inSparse}
+use Rattle.format.specs.LookUp.{Sought, halve, halving, halved, inSparse}
 use Rattle.format.proofs.Cases.{below-or}
 use Rattle.format.proofs.Halving.{halve-none, halve-hit, halve-past, halve-before, probes-12, IndexUnder, index-under}
 use Rattle.format.proofs.Probes.{length-shorts}
@@ -43,7 +43,7 @@ module _ (s : List ℕ) (at lo hi r n c : ℕ) (h : hi ≤ c) where
   abbrev probe : ℕ
   probe = lowAt 2 s (at + 2 * ((lo + hi) / 2))
 
-  the-entry : lo < hi → getD entries ((lo + hi) / 2) 0 ≡ probe
+  pub the-entry : lo < hi → getD entries ((lo + hi) / 2) 0 ≡ probe
   the-entry l = entry-is c ((lo + hi) / 2) at s (omega arith)
 
   pub stops : lo ≡ hi → 16 * 65536 + n ≡ inOneWord (halve r entries lo hi n)
@@ -58,7 +58,13 @@ module _ (s : List ℕ) (at lo hi r n c : ℕ) (h : hi ≤ c) where
       rw (t .1, t .2, add-one n, add-one ((lo + hi) / 2)) (sym (halve-past r entries lo hi n l (rw (the-entry l, ← e) (t .0))))
   goes x lo′ hi′ l e (inr t) = rw (t .1, t .2, add-one n) (sym (halve-before r entries lo hi n l (rw (the-entry l, ← e) (t .0))))
 
--- ---- the word that tells, of a sparse block's c entries
+-- ---- an index among a sparse block's c entries
+
+pub index-below : (s : List ℕ) (at c r : ℕ) → IndexUnder c (halved r (shorts c (drop at s)))
+index-below s at c r =
+    subst (λ (n : ℕ). IndexUnder n (halved r (shorts c (drop at s)))) (length-shorts c (drop at s)) (index-under r (shorts c (drop at s)))
+
+-- ---- the word that tells
 
 module _ (s : List ℕ) (at c r w : ℕ) (small : c < 4096) (e : w ≡ inOneWord (halve r (shorts c (drop at s)) 0 c 0)) where
   abbrev h : Sought
@@ -70,9 +76,6 @@ module _ (s : List ℕ) (at c r w : ℕ) (small : c < 4096) (e : w ≡ inOneWord
   few : h .probes ≤ 12
   few = probes-12 r (shorts c (drop at s)) (omega (arith, length-shorts c (drop at s)))
 
-  under : IndexUnder c (h .index)
-  under = subst (λ (n : ℕ). IndexUnder n (h .index)) (length-shorts c (drop at s)) (index-under r (shorts c (drop at s)))
-
   pub found : w < 16 * 65536 → (Searched h (In.Inner.At (w / 16) 0 (w % 16))) × (w / 16 < c) × (w % 16 ≤ 12)
   unfolding inSparse
   found l = go (h .index) refl
@@ -80,7 +83,7 @@ module _ (s : List ℕ) (at c r w : ℕ) (small : c < 4096) (e : w ≡ inOneWord
       go : (o : Option ℕ) → h .index ≡ o → (Searched h (In.Inner.At (w / 16) 0 (w % 16))) × (w / 16 < c) × (w % 16 ≤ 12)
       go (some i) q =
           let f : w ≡ 16 * i + h .probes = word ∙ rw q refl in
-          let u : i < c = rw q at under in
+          let u : i < c = rw q at (index-below s at c r) in
           let j : w / 16 ≡ i = omega (arith, few) in
           ((rw (q, j) refl, omega (arith, few)), omega arith, omega (arith, few))
       go none q = let f : w ≡ 16 * 65536 + h .probes = word ∙ rw q refl in absurd (omega arith)
@@ -92,6 +95,6 @@ module _ (s : List ℕ) (at c r w : ℕ) (small : c < 4096) (e : w ≡ inOneWord
       go : (o : Option ℕ) → h .index ≡ o → (Searched h (In.Inner.Absent 0 (w % 16))) × Unit {0} × (w % 16 ≤ 12)
       go (some i) q =
           let f : w ≡ 16 * i + h .probes = word ∙ rw q refl in
-          let u : i < c = rw q at under in
+          let u : i < c = rw q at (index-below s at c r) in
           absurd (omega (arith, few))
       go none q = let f : w ≡ 16 * 65536 + h .probes = word ∙ rw q refl in ((rw q refl, omega (arith, few)), tt, omega (arith, few))

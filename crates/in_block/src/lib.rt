@@ -14,6 +14,10 @@ ghost use Rattle.in_block.specs.Place.{placeOf, probesOf, Below, inOneWo
 use blocks::Block;
 use blocks::Kind;
 
+mod by_count;
+
+pub use by_count::index_in;
+
 // A place's index in its block, the words counted and the entries probed; not there, with both; or a failed step. (32 bits for the
 // index: both cases then have words and probes in the same place, and nothing goes through memory.)
 pub enum Inner {
@@ -120,7 +124,7 @@ pub fn stride_rank(s: &[u8], t: usize, p: usize, r: usize) -> u64
 }
 
 // Place r of a dense block of `count` ids whose data start at t.
-fn dense(s: &[u8], t: usize, p: usize, count: usize, r: usize) -> Inner
+pub fn dense(s: &[u8], t: usize, p: usize, count: usize, r: usize) -> Inner
     requires { ⌜ (Power p) × (r < blockPlaces) × (t + rankBytes p + bitmapBytes ≤ length (now s)) ⌝ }
     ensures { λ a. ⌜ (placeOf a ≡ denseAt p (now (s .entry)) t count r) × (Below count a) × (probesOf a ≡ 0) ⌝ }
 {

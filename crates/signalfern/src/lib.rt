@@ -9,6 +9,7 @@ ghost use Rattle.format.specs.Editions.{editions};
 ghost use Rattle.format.specs.Opening.{Opened, openColumn};
 ghost use Rattle.format.specs.LookUp.{stepProbes, lookUp, lookUpProbes, lookUpIn};
 ghost use Rattle.format.specs.Walk.{FewWords};
+ghost use Rattle.format.specs.Page.{placeKind, placeOrdinal, placeValue, page, pageReply, pageAfter};
 ghost use Rattle.format.specs.Next.{next, nextIn, lastAfter};
 ghost use Rattle.format.specs.Layered.{lookUpLayered, lookUpLayeredIn, layeredPart, IsPart};
 ghost use Rattle.format.specs.SetBytes.{setWrite};
@@ -75,6 +76,36 @@ pub fn look_up_in(column: Column, bytes: &[u8], id: u32) -> Answer
     ensures probes { λ r. ⌜ Probed (stepProbes (now (bytes .entry)) (columnOf column) id) r ⌝ }
 {
     lookup::look_up_in(column, bytes, id)
+}
+
+// Looks a page of ids up (document 02, [3]), the header opened once: into place i of each list what `look_up` answers for id i, with
+// ordinal 0 and value 0 where the id is absent (kind 1) or its look-up is refused (its refusal number). Hands back the sum of words
+// modulo 2^64. Where a list is shorter than the ids, 12 with their count, before a byte is read or written; places after the ids stay.
+pub fn look_up_page(
+    bytes: &[u8],
+    ids: &[u32],
+    ordinals: &mut [u64],
+    values: &mut [i64],
+    kinds: &mut [u8],
+) -> Reply
+    ensures replies { λ r.
+        ⌜ replyOf r
+        ≡ pageReply (page editions (now (bytes .entry)) (now (ids .entry)) (length (now (ordinals .entry))) (length (now (values .entry)))
+        (length (now (kinds .entry)))) ⌝ }
+    ensures ordinals_placed { λ _.
+        ⌜ now (ordinals .exit)
+        ≡ pageAfter placeOrdinal (page editions (now (bytes .entry)) (now (ids .entry)) (length (now (ordinals .entry)))
+        (length (now (values .entry))) (length (now (kinds .entry)))) (now (ordinals .entry)) ⌝ }
+    ensures values_placed { λ _.
+        ⌜ now (values .exit)
+        ≡ pageAfter placeValue (page editions (now (bytes .entry)) (now (ids .entry)) (length (now (ordinals .entry)))
+        (length (now (values .entry))) (length (now (kinds .entry)))) (now (values .entry)) ⌝ }
+    ensures kinds_placed { λ _.
+        ⌜ now (kinds .exit)
+        ≡ pageAfter placeKind (page editions (now (bytes .entry)) (now (ids .entry)) (length (now (ordinals .entry)))
+        (length (now (values .entry))) (length (now (kinds .entry)))) (now (kinds .entry)) ⌝ }
+{
+    page::look_up_page(bytes, ids, ordinals, values, kinds)
 }
 
 // The next scored candidate (document 02, [1]): the first listed id at or above the target with its ordinal and value, or that there is

@@ -11,6 +11,7 @@ use Rattle.signalfern_c.specs.declared.CReply.{CReply}
 use Rattle.signalfern_c.specs.declared.CAnswer.{CAnswer}
 use Rattle.signalfern_c.specs.declared.CColumn.{CColumn}
 use Rattle.signalfern_c.specs.declared.CCandidate.{CCandidate}
+use Rattle.signalfern_c.specs.declared.pages.CPage.{CPage}
 
 -- refusal 0: the byte count or n; otherwise the refusal's number and the number with it
 abbrev pub replyC : Outcome ℕ → CReply
@@ -91,3 +92,10 @@ candidateC (refused why w) last = record { kind = why; number = w; id = 0; ordin
 
 abbrev pub toldC : Outcome Candidate → ℕ → ℕ → CCandidate
 toldC o last t = candidateC o (lastAfter o last t)
+
+-- ---- document 02, [3]
+
+-- a page of n ids: refusal 0, n and the sum of words; otherwise the refusal's number and the number with it
+abbrev pub pageC : ℕ → Outcome ℕ → CPage
+pageC n (done w) = record { refusal = 0; number = n; words = w }
+pageC n (refused why w) = record { refusal = why; number = w; words = 0 }

@@ -81,11 +81,16 @@ impl<'a, T: Copy> Turns<'a, T> {
         Self { asked, taken: 0 }
     }
 
-    pub fn sum(&mut self, ask: impl Fn(T) -> u64) -> u64 {
+    /// Those of the next run.
+    pub fn next(&mut self) -> &'a [T] {
         let mut runs = self.asked.chunks(LOOK_UPS);
         let asked = runs.nth(self.taken % runs.len()).unwrap_or(&[]);
         self.taken += 1;
-        asked.iter().fold(0, |sum, &it| sum ^ ask(it))
+        asked
+    }
+
+    pub fn sum(&mut self, ask: impl Fn(T) -> u64) -> u64 {
+        self.next().iter().fold(0, |sum, &it| sum ^ ask(it))
     }
 }
 

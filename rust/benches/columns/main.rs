@@ -10,6 +10,7 @@ mod layered;
 mod measure;
 mod next;
 mod options;
+mod page;
 mod plot;
 
 use std::process::ExitCode;
@@ -46,6 +47,7 @@ fn run(options: &Options) -> Result<(), String> {
         Rows::Counts => counts(effort),
         Rows::Next => next::table(effort),
         Rows::Layered => layered::table(effort),
+        Rows::Pages => page::table(effort),
     };
     table.print(options.before.as_ref());
     let mut times = Times::default();

@@ -45,6 +45,8 @@ pub enum Rows {
     Next,
     /// The look-up with a correction on top, beside those that it is made of.
     Layered,
+    /// A page of ids in one call, beside single look-ups and beside the reference's.
+    Pages,
 }
 
 /// What stood on the command line.
@@ -80,6 +82,7 @@ impl Options {
                 "--counts" => options.rows = Rows::Counts,
                 "--next" => options.rows = Rows::Next,
                 "--layered" => options.rows = Rows::Layered,
+                "--pages" => options.rows = Rows::Pages,
                 "--plot" => options.plot = Some(value()?.into()),
                 "--save" => options.save = Some(value()?.into()),
                 "--beside" => options.before = Some(Times::read(value()?.as_ref())?),
@@ -91,11 +94,12 @@ impl Options {
 }
 
 const USAGE: &str = "cargo bench --bench columns -- [--widths | --divisors | --counts | --next | \
---layered | --plot FILE.svg] [--save FILE] [--beside FILE]
+--layered | --pages | --plot FILE.svg] [--save FILE] [--beside FILE]
   --widths       the calls at each width of stored numbers in place of each kind of block
   --divisors     the calls on values with large and small divisors
   --counts       look-ups alone, in blocks of few ids to many
   --next         the next candidate, beside the look-up, the reading and the reference
   --layered      the look-up with a correction on top, beside the look-ups that it is made of
+  --pages        a page of ids in one call, beside look-ups by an opened column and the reference's page
   --plot FILE    how look-up, check and reading grow with the pairs and with the bytes, drawn
   --save FILE    keep the times; --beside FILE sets such times, of another revision, beside these";

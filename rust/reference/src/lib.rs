@@ -10,6 +10,7 @@ mod ids;
 mod layered;
 mod look_up;
 mod next;
+mod page;
 mod set;
 mod sparse;
 mod values;
@@ -20,6 +21,7 @@ pub use layered::{
 };
 pub use look_up::{look_up, look_up_in};
 pub use next::{next, next_by_each_id, next_in, next_listed, Candidate, Next};
+pub use page::look_up_page;
 pub use set::{set_check, set_find, set_write};
 pub use sparse::{halve, scan};
 
@@ -79,8 +81,9 @@ impl Refusal {
         Self::new(8, place as u64)
     }
 
-    const fn buffer(count: u64) -> Self {
-        Self::new(12, count)
+    /// With the places needed.
+    const fn buffer(needed: u64) -> Self {
+        Self::new(12, needed)
     }
 }
 

@@ -4,6 +4,7 @@
 mod divisor;
 mod layered;
 mod next;
+mod page;
 mod set;
 
 use std::collections::BTreeMap;

@@ -2,7 +2,7 @@
 
 use signalfern::{Refusal, MAX_ID};
 
-use super::{few_ids, ids_of, same, values_of_width, Random, POWERS};
+use super::{few_ids, ids_of, pages, same, values_of_width, Random, POWERS};
 
 /// How often each refusal came; 0 is for accepted bytes.
 #[derive(Default)]
@@ -32,6 +32,7 @@ impl Tally {
                 assert_eq!(same::look_up_in(column.header(), bytes, id), answer);
             }
         }
+        pages::look_up_exactly(bytes, asked);
     }
 
     pub fn count(&mut self, refusal: Option<Refusal>) {

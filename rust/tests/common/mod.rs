@@ -5,6 +5,7 @@
 pub mod damage;
 pub mod layers;
 pub mod listed;
+pub mod pages;
 pub mod parts;
 pub mod same;
 pub mod tool;

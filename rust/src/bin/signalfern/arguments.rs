@@ -7,7 +7,7 @@ use std::path::PathBuf;
 use crate::command::{Choice, Command};
 use crate::failure::Failure;
 use crate::nearest::did_you_mean;
-use crate::pairs::{parse_id, Wrong};
+use crate::pairs::parse_asked;
 use crate::text::{cut, quoted};
 
 /// What stood on the command line.
@@ -166,13 +166,10 @@ impl Arguments {
             return Err(self.usage("no id is named"));
         };
         self.finish()?;
-        let id = match parse_id(word.as_bytes()) {
-            Ok(id) => id,
-            // A number of more than 32 bits is above the limit as the greatest of them is.
-            Err(Wrong::TooGreat(_)) => u32::MAX,
-            Err(Wrong::Text(wrong)) => return Err(self.usage(wrong)),
-        };
-        Ok((cut(word.as_bytes()), id))
+        match parse_asked(word.as_bytes()) {
+            Ok(id) => Ok((cut(word.as_bytes()), id)),
+            Err(wrong) => Err(self.usage(wrong.parts().1)),
+        }
     }
 
     /// Refuses words that are left over.

@@ -1,11 +1,14 @@
 //! The opened columns of the package: the one place where the tool uses them.
 
 use signalfern::{
-    Answer, Candidates, Column, Layer, Layered, LayeredAnswer, LayeredRefusal, Refusal,
+    Answer, Candidates, Column, Layer, Layered, LayeredAnswer, LayeredRefusal, PageAnswer, Refusal,
 };
 
 use crate::failure::Failure;
 use crate::load::Loaded;
+
+/// Ids that are asked for in one call.
+pub const PAGE: usize = 1000;
 
 /// A column to be asked for many ids.
 pub struct Asked<'a>(Column<'a>);
@@ -22,6 +25,14 @@ impl<'a> Asked<'a> {
 
     pub fn look_up(&self, id: u32) -> Result<Answer, Refusal> {
         self.0.look_up(id)
+    }
+
+    /// Looks a page of ids up, of which there are at most [`PAGE`].
+    pub fn look_up_page(&self, ids: &[u32]) -> Result<Vec<PageAnswer>, Refusal> {
+        let (mut ordinals, mut values, mut kinds) = ([0; PAGE], [0; PAGE], [0; PAGE]);
+        let lists = (&mut ordinals, &mut values, &mut kinds);
+        let page = self.0.look_up_page(ids, lists.0, lists.1, lists.2)?;
+        Ok(page.iter().collect())
     }
 
     pub fn candidates_from(&self, id: u32) -> Candidates<'a> {

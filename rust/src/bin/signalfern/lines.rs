@@ -35,9 +35,10 @@ pub enum Line<'a> {
 }
 
 impl Lines {
-    pub fn of(mut input: Input) -> Result<Self, Failure> {
+    /// `doing` says in the progress what is done with them.
+    pub fn of(mut input: Input, doing: &str) -> Result<Self, Failure> {
         let total = input.left();
-        let label = format!("reading {}", input.name());
+        let label = format!("{doing} {}", input.name());
         Ok(Self {
             progress: Progress::new(label, Unit::Bytes, total),
             buffer: memory::zeros(BUFFER as u64, "a buffer")?,
@@ -48,6 +49,14 @@ impl Lines {
             done: 0,
             head: Vec::new(),
         })
+    }
+
+    /// Silent about the progress where what is made of them is printed to a terminal.
+    pub fn beside_output(self) -> Self {
+        Self {
+            progress: self.progress.beside(true),
+            ..self
+        }
     }
 
     pub fn input(&self) -> &Input {

@@ -1,28 +1,29 @@
-//! look-up: single ids asked for.
+//! look-up: single ids asked for, and those of a file page by page.
 
+use std::collections::VecDeque;
 use std::ffi::OsString;
 use std::io::{self, Write};
 use std::os::unix::ffi::OsStrExt;
 use std::path::PathBuf;
 
-use signalfern::{Answer, Layer, LayeredAnswer, Refusal};
+use signalfern::{Answer, Layer, LayeredAnswer, PageAnswer, Refusal, MAX_ID};
 
 use crate::arguments::Arguments;
-use crate::column::{Asked, Corrected};
+use crate::column::{Asked, Corrected, PAGE};
 use crate::failure::{Failure, REFUSED};
 use crate::input::Input;
 use crate::lines::{Line, Lines};
 use crate::load::Loaded;
 use crate::output::print_with;
-use crate::pairs::{parse_id, Wrong};
+use crate::pairs::{parse_asked, Wrong};
 use crate::text::{cut, is_standard};
 
 pub fn run(mut arguments: Arguments) -> Result<(), Failure> {
     let path = arguments.file("column")?;
     let mut words = Vec::new();
     while let Some(word) = arguments.next() {
-        if let Err(Wrong::Text(wrong)) = parse_id(word.as_bytes()) {
-            return Err(arguments.usage(wrong));
+        if let Err(wrong) = parse_asked(word.as_bytes()) {
+            return Err(arguments.usage(wrong.parts().1));
         }
         words.push(word);
     }
@@ -64,6 +65,9 @@ pub fn run(mut arguments: Arguments) -> Result<(), Failure> {
     }
 }
 
+/// The line about an id, or the column that refused and why.
+type Told = Result<String, (Layer, Refusal)>;
+
 /// What is asked: a column, or one with a correction on top.
 enum Source<'a> {
     Column(Asked<'a>),
@@ -71,8 +75,7 @@ enum Source<'a> {
 }
 
 impl Source<'_> {
-    /// The line about an id, or the column that refused and why.
-    fn line(&self, id: u32) -> Result<String, (Layer, Refusal)> {
+    fn one(&self, id: u32) -> Told {
         match self {
             Self::Column(asked) => match asked.look_up(id) {
                 Ok(answer) => Ok(line(id, answer)),
@@ -84,6 +87,27 @@ impl Source<'_> {
             },
         }
     }
+
+    /// What is told of each id of a page. With a correction on top they are asked for one by one.
+    fn page(&self, ids: &[u32]) -> Vec<Told> {
+        let Self::Column(asked) = self else {
+            return ids.iter().map(|&id| self.one(id)).collect();
+        };
+        match asked.look_up_page(ids) {
+            Ok(answers) => (ids.iter().zip(answers))
+                .map(|(&id, answer)| page_line(id, answer))
+                .collect(),
+            Err(refusal) => vec![Err((Layer::Machine, refusal)); ids.len()],
+        }
+    }
+}
+
+/// Ids of a text that wait until there is a page of them.
+#[derive(Default)]
+struct Waiting {
+    ids: Vec<u32>,
+    /// Where each of them stands that is above the limit, and how it is written.
+    above: VecDeque<String>,
 }
 
 struct Asking<'a> {
@@ -112,50 +136,104 @@ impl Asking<'_> {
     /// The ids of a text. The outer result is that of the output, the inner that of the list.
     fn list(&mut self, out: &mut dyn Write, list: Input) -> io::Result<Result<(), Failure>> {
         let name = list.name();
-        let mut lines = match Lines::of(list) {
-            Ok(lines) => lines,
+        let mut lines = match Lines::of(list, "looking up") {
+            Ok(lines) => lines.beside_output(),
             Err(failure) => return Ok(Err(failure)),
         };
+        let mut waiting = Waiting::default();
+        let mut result = Ok(());
         for number in 1.. {
             let place = || format!("{name}: line {number}");
             match lines.next() {
-                Err(failure) => return Ok(Err(failure)),
                 Ok(None) => break,
+                Ok(Some(Line::Bytes(line))) => self.line(out, line, place, &mut waiting)?,
                 Ok(Some(Line::TooLong)) => {
                     let (refusal, sentence) = Wrong::too_long().parts();
-                    return Ok(Err(Failure::refused_as(place(), refusal, sentence)));
+                    result = Err(Failure::refused_as(place(), refusal, sentence));
+                    break;
                 }
-                Ok(Some(Line::Bytes(line))) => {
-                    let words = line.split(u8::is_ascii_whitespace);
-                    let words = words.filter(|word| !word.is_empty());
-                    for word in words.take_while(|word| !word.starts_with(b"#")) {
-                        self.one(out, word, &place())?;
-                    }
+                Err(failure) => {
+                    result = Err(failure);
+                    break;
                 }
             }
         }
-        Ok(Ok(()))
+        self.page(out, &mut waiting)?;
+        Ok(result)
+    }
+
+    /// The ids of one line: they wait, until there is a page of them.
+    fn line(
+        &mut self,
+        out: &mut dyn Write,
+        line: &[u8],
+        place: impl Fn() -> String,
+        waiting: &mut Waiting,
+    ) -> io::Result<()> {
+        let words = line.split(u8::is_ascii_whitespace);
+        let words = words.filter(|word| !word.is_empty());
+        for word in words.take_while(|word| !word.starts_with(b"#")) {
+            match parse_asked(word) {
+                Ok(id) => {
+                    waiting.ids.push(id);
+                    if id > MAX_ID {
+                        waiting.above.push_back(asked_at(&place(), word));
+                    }
+                }
+                Err(wrong) => {
+                    // After what is said of the ids before it.
+                    self.page(out, waiting)?;
+                    self.no_id(&place(), wrong);
+                }
+            }
+            if waiting.ids.len() == PAGE {
+                self.page(out, waiting)?;
+            }
+        }
+        Ok(())
+    }
+
+    /// Asks for all ids that wait.
+    fn page(&mut self, out: &mut dyn Write, waiting: &mut Waiting) -> io::Result<()> {
+        let told = self.source.page(&waiting.ids);
+        for (id, told) in waiting.ids.drain(..).zip(told) {
+            let at = || waiting.above.pop_front().unwrap_or_default();
+            self.tell(out, id, told, at)?;
+        }
+        Ok(())
     }
 
     fn one(&mut self, out: &mut dyn Write, word: &[u8], place: &str) -> io::Result<()> {
-        let id = match parse_id(word) {
-            Ok(id) => id,
-            // A number of more than 32 bits is above the limit as the greatest of them is.
-            Err(Wrong::TooGreat(_)) => u32::MAX,
+        match parse_asked(word) {
+            Ok(id) => self.tell(out, id, self.source.one(id), || asked_at(place, word)),
             Err(wrong) => {
-                let (refusal, sentence) = wrong.parts();
-                self.refuse(&Failure::refused_as(place, refusal, sentence));
-                return Ok(());
+                self.no_id(place, wrong);
+                Ok(())
             }
-        };
-        let what = match self.source.line(id) {
+        }
+    }
+
+    /// Tells of one id. `at` says where one that is above the limit stands.
+    fn tell(
+        &mut self,
+        out: &mut dyn Write,
+        id: u32,
+        told: Told,
+        at: impl FnOnce() -> String,
+    ) -> io::Result<()> {
+        let (what, refusal) = match told {
             Ok(line) => return out.write_all(line.as_bytes()),
-            Err((_, refusal @ Refusal::Id)) => (format!("{place}: id {}", cut(word)), refusal),
+            Err((_, refusal @ Refusal::Id)) => (at(), refusal),
             Err((Layer::Machine, refusal)) => (format!("{}: id {id}", self.name), refusal),
             Err((Layer::Correction, refusal)) => (format!("{}: id {id}", self.correction), refusal),
         };
-        self.refuse(&Failure::refused(what.0, what.1));
+        self.refuse(&Failure::refused(what, refusal));
         Ok(())
+    }
+
+    fn no_id(&mut self, place: &str, wrong: Wrong) {
+        let (refusal, sentence) = wrong.parts();
+        self.refuse(&Failure::refused_as(place, refusal, sentence));
     }
 
     fn refuse(&mut self, failure: &Failure) {
@@ -164,11 +242,28 @@ impl Asking<'_> {
     }
 }
 
+/// An id as it is written, and where.
+fn asked_at(place: &str, word: &[u8]) -> String {
+    format!("{place}: id {}", cut(word))
+}
+
 fn line(id: u32, answer: Answer) -> String {
     let cost = format!("words {} probes {}", answer.words(), answer.probes());
     match answer {
         Answer::Found { ordinal, value, .. } => format!("{id} {value} ordinal {ordinal} {cost}\n"),
         Answer::Absent { .. } => format!("{id} absent {cost}\n"),
+    }
+}
+
+fn page_line(id: u32, answer: PageAnswer) -> Told {
+    match answer {
+        PageAnswer::Found { ordinal, value, .. } => Ok(format!("{id} {value} ordinal {ordinal}\n")),
+        PageAnswer::Absent => Ok(format!("{id} absent\n")),
+        // By an opened column that is ID or BROKEN, which come without a number.
+        PageAnswer::Refused(number) => {
+            let refusal = Refusal::from_number(number.into(), 0);
+            Err((Layer::Machine, refusal.unwrap_or(Refusal::Broken)))
+        }
     }
 }
 

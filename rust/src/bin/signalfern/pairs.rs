@@ -80,7 +80,7 @@ impl Pairs {
     /// Reads all lines.
     pub fn read(input: Input) -> Result<Self, Failure> {
         let mut pairs = Self::default();
-        let mut lines = Lines::of(input)?;
+        let mut lines = Lines::of(input, "reading")?;
         let name = lines.input().name();
         let mut number = 0;
         loop {
@@ -201,6 +201,14 @@ pub fn parse_id(word: &[u8]) -> Result<u32, Wrong> {
             "{quoted} is no id: a whole number from 0 to {MAX_ID}"
         ))
     })
+}
+
+/// An id that is asked for. A number of more than 32 bits is above the limit as the greatest of them is.
+pub fn parse_asked(word: &[u8]) -> Result<u32, Wrong> {
+    match parse_id(word) {
+        Err(Wrong::TooGreat(_)) => Ok(u32::MAX),
+        parsed => parsed,
+    }
 }
 
 fn parse_value(word: &[u8]) -> Result<i64, Wrong> {

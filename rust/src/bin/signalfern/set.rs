@@ -79,7 +79,7 @@ impl Ids {
     fn read(input: Input) -> Result<Self, Failure> {
         let mut ids = Self::default();
         let name = input.name();
-        let mut lines = Lines::of(input)?;
+        let mut lines = Lines::of(input, "reading")?;
         for number in 1.. {
             let parsed = match lines.next()? {
                 None => break,

@@ -144,6 +144,9 @@ const LOOK_UP: Command = Command {
         "Asks a column for single ids. One line for each: the id, then its value and its ordinal \
          (how many ids lie below it), or `absent`; then the bitmap words that were counted and the \
          entries of a sparse block that were probed.",
+        "The ids of a file (--ids) are asked for a thousand at a time, which is the sooner way for \
+         many. They may repeat and stand in any order, which is that of the lines; words and probes \
+         are not told.",
         "With --correction a second column lies on top: it answers for the ids that it holds, and \
          COLUMN for all others. A line then names the column that spoke, `by correction` or `by \
          machine`, whose ordinal it is, and has the words of each; probes are not told.",

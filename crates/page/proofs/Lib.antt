@@ -1,0 +1,3 @@
+-- Laws of a page.
+pub mod Marking
+pub mod Pages

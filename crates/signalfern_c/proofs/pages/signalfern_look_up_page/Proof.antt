@@ -1,0 +1,12 @@
+-- `signalfern_c::pages::signalfern_look_up_page` meets its contract. Assumes nothing.
+use Rattle.format.specs.Kit.{needs, ap, _∙_}
+use Rattle.signalfern_c.specs.Boundary.{pageC}
+use Rattle.signalfern_c.proofs.pages.signalfern_look_up_page.Statement.{statement}
+use Rattle.signalfern_c.proofs.pages.signalfern_look_up_page.Tie as tie
+
+returns : tie.Need-returns
+returns c = let p = c .before .before .before .before .before .before .look-up-page in (c .page-c .ensures ∙ ap (pageC _) (p .ensures .0), p .ensures .1)
+
+pub signalfern-look-up-page-spec : {M : Type 1} → statement M
+signalfern-look-up-page-spec =
+    tie.close (tie.spec (λ c κs. search needs) (λ c κs. search needs) (λ c. search needs) (λ c. search needs) (λ c. search needs) returns)

@@ -1,0 +1,64 @@
+// A page of ids for C (document 02, [3]).
+ghost use mathlib.Core.Path.{_≡_};
+ghost use lib.ListN.{length};
+ghost use Rattle.format.specs.Editions.{editions};
+ghost use Rattle.format.specs.Page.{placeKind, placeOrdinal, placeValue, page, pageReply, pageAfter};
+ghost use Rattle.format.specs.Replies.{replyOf};
+ghost use Rattle.signalfern_c.specs.Boundary.{pageC};
+use format::Reply;
+
+// signalfern_page
+#[repr(C)]
+pub struct CPage {
+    pub refusal: u64,
+    pub number: u64,
+    pub words: u64,
+}
+
+// For so many ids.
+fn page_c(reply: Reply, n: usize) -> CPage
+    ensures { λ r. ⌜ r ≡ pageC n (replyOf reply) ⌝ }
+{
+    match reply {
+        Reply::Done(words) => CPage {
+            refusal: 0,
+            number: n as u64,
+            words,
+        },
+        Reply::Refused(why) => CPage {
+            refusal: why.number(),
+            number: why.number_with(),
+            words: 0,
+        },
+    }
+}
+
+#[no_mangle]
+pub extern "C" fn signalfern_look_up_page(
+    bytes: &[u8],
+    ids: &[u32],
+    ordinals: &mut [u64],
+    values: &mut [i64],
+    kinds: &mut [u8],
+) -> CPage
+    ensures replies { λ r.
+        ⌜ r
+        ≡ pageC (length (now (ids .entry))) (pageReply (page editions (now (bytes .entry)) (now (ids .entry)) (length (now (ordinals .entry)))
+        (length (now (values .entry))) (length (now (kinds .entry))))) ⌝ }
+    ensures ordinals_placed { λ _.
+        ⌜ now (ordinals .exit)
+        ≡ pageAfter placeOrdinal (page editions (now (bytes .entry)) (now (ids .entry)) (length (now (ordinals .entry)))
+        (length (now (values .entry))) (length (now (kinds .entry)))) (now (ordinals .entry)) ⌝ }
+    ensures values_placed { λ _.
+        ⌜ now (values .exit)
+        ≡ pageAfter placeValue (page editions (now (bytes .entry)) (now (ids .entry)) (length (now (ordinals .entry)))
+        (length (now (values .entry))) (length (now (kinds .entry)))) (now (values .entry)) ⌝ }
+    ensures kinds_placed { λ _.
+        ⌜ now (kinds .exit)
+        ≡ pageAfter placeKind (page editions (now (bytes .entry)) (now (ids .entry)) (length (now (ordinals .entry)))
+        (length (now (values .entry))) (length (now (kinds .entry)))) (now (kinds .entry)) ⌝ }
+{
+    let n = ids.len();
+    let reply = signalfern::look_up_page(bytes, ids, ordinals, values, kinds);
+    page_c(reply, n)
+}
