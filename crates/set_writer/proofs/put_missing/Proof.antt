@@ -18,7 +18,8 @@ abbrev μ-loop : tie.MeasureT-loop
 μ-loop part out₀ at x₀ i₀ j₀ out x i j = length part - j
 
 -- all missing places have room
-whole-fits : (s : tie.Start Inv-loop μ-loop) → s .args .at + length (left-of (s .args .part .now) 0 0) ≤ length (s .args .out .now)
+whole-fits : (s : tie.Start Inv-loop μ-loop)
+    → s .args .at + length (left-of (s .args .part .now) 0 0) ≤ length (s .args .out .now)
 whole-fits s = omega (arith, s .pre .1, length-shorts-bytes (missing 65536 0 (placesFrom (s .args .part .now) 0)))
 
 -- The next place, y: it is not below x, what is left begins with the span up to it, and that span has room.
