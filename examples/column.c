@@ -58,13 +58,13 @@ int main(void)
     const int64_t values[] = {150, 140, 135};
 
     /* Asked with no room, the writer tells how much it needs. */
-    signalfern_reply asked = signalfern_write(ids, 3, values, 3, SIGNALFERN_USUAL_POWER, NULL, 0);
+    signalfern_reply asked = signalfern_write(ids, 3, values, 3, SIGNALFERN_PLAIN, SIGNALFERN_USUAL_POWER, NULL, 0);
     if (asked.refusal != SIGNALFERN_ROOM)
         refuse("write", asked.refusal, asked.number);
     uint8_t *column = malloc(asked.number);
     if (column == NULL)
         return 1;
-    uint64_t len = done("write", signalfern_write(ids, 3, values, 3, SIGNALFERN_USUAL_POWER, column, asked.number));
+    uint64_t len = done("write", signalfern_write(ids, 3, values, 3, SIGNALFERN_PLAIN, SIGNALFERN_USUAL_POWER, column, asked.number));
     uint64_t count = done("check", signalfern_check(column, len));
     printf("%" PRIu64 " bytes, %" PRIu64 " pairs\n", len, count);
 

@@ -31,8 +31,8 @@ int main(void)
     const uint32_t ids[] = {0, 2, 7}, corrected[] = {2};
     const int64_t values[] = {150, 140, 135}, right[] = {-1};
     uint8_t machine[64], correction[64];
-    signalfern_reply below = signalfern_write(ids, 3, values, 3, SIGNALFERN_USUAL_POWER, machine, sizeof machine);
-    signalfern_reply above = signalfern_write(corrected, 1, right, 1, SIGNALFERN_USUAL_POWER, correction, sizeof correction);
+    signalfern_reply below = signalfern_write(ids, 3, values, 3, SIGNALFERN_PLAIN, SIGNALFERN_USUAL_POWER, machine, sizeof machine);
+    signalfern_reply above = signalfern_write(corrected, 1, right, 1, SIGNALFERN_PLAIN, SIGNALFERN_USUAL_POWER, correction, sizeof correction);
     if (below.refusal != 0 || above.refusal != 0)
         return 1;
     tell(machine, below.number, correction, above.number, 7);

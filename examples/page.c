@@ -11,7 +11,7 @@ int main(void)
     const uint32_t ids[] = {0, 2, 7};
     const int64_t values[] = {150, 140, 135};
     uint8_t column[64];
-    signalfern_reply written = signalfern_write(ids, 3, values, 3, SIGNALFERN_USUAL_POWER, column, sizeof column);
+    signalfern_reply written = signalfern_write(ids, 3, values, 3, SIGNALFERN_PLAIN, SIGNALFERN_USUAL_POWER, column, sizeof column);
     if (written.refusal != 0)
         return 1;
 

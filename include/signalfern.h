@@ -53,6 +53,12 @@ extern "C" {
 /* The rank power that fits most columns, and Lucene's. */
 #define SIGNALFERN_USUAL_POWER 9u
 
+/* The editions: how a column stores its values. Every call takes columns of each, and the writer is
+ * told one. */
+#define SIGNALFERN_PLAIN 1u  /* stored numbers of the least width from 0 to 64, high bit first */
+#define SIGNALFERN_LUCENE 2u /* packed as Lucene 9 packs: low bit first, at the least of the widths 1, 2, 4,
+                                8, 12, 16, 20, 24, 28, 32, 40, 48, 56 and 64 that suffices, or 0 */
+
 /*
  * Refusals. The number with a refusal is 0 where nothing else is said.
  */
@@ -67,7 +73,7 @@ enum {
     SIGNALFERN_NUMBER = 8,   /* a header number is not minimal, or is 2^64 or more; with the place,
                                 from 0, of the byte that decided it: the 0 that ends a number of
                                 several bytes, or the tenth byte of one that is not 1 */
-    SIGNALFERN_EDITION = 9,  /* the first header number is not 1 */
+    SIGNALFERN_EDITION = 9,  /* the first header number, or what the writer was told, is no edition */
     SIGNALFERN_HEADER = 10,  /* a header rule is broken */
     SIGNALFERN_LENGTH = 11,  /* header, id section and value section are not the byte count */
     SIGNALFERN_BUFFER = 12,  /* the ids or the values buffer is shorter than n, or a list for a page's
@@ -113,12 +119,12 @@ typedef struct {
 typedef struct {
     uint64_t refusal;     /* 0: opened. Otherwise the refusal: 7 to 11. */
     uint64_t number;      /* Opened: 0. Otherwise the number with the refusal. */
-    uint64_t edition;     /* the edition: 1 */
+    uint64_t edition;     /* the edition: SIGNALFERN_PLAIN or SIGNALFERN_LUCENE */
     uint64_t count;       /* n, the count of pairs */
     uint64_t power;       /* p, the rank power: 0 or 7 to 15 */
     uint64_t id_bytes;    /* L, the bytes of the id section */
     uint64_t jump_count;  /* J, the count of jump entries */
-    uint64_t width;       /* w, the bits of a stored number: 0 to 64 */
+    uint64_t width;       /* w, the bits of a stored number: 0 to 64, of which edition 2 has some only */
     uint64_t smallest;    /* the smallest value v as the header has it: 2v, or -2v-1 if v < 0;
                              signalfern_smallest gives v */
     uint64_t divisor;     /* g, the divisor of the values' differences: at least 1 */
@@ -175,16 +181,17 @@ typedef struct {
 /*
  * Writes the column of the pairs (ids[i], values[i]) to the front of out.
  *
- * power is the rank power: 0 for none, or 7 to 15 for one rank to every 2^power places of a dense
- * block (SIGNALFERN_USUAL_POWER is a good choice).
+ * edition is SIGNALFERN_PLAIN or SIGNALFERN_LUCENE. power is the rank power: 0 for none, or 7 to 15 for
+ * one rank to every 2^power places of a dense block (SIGNALFERN_USUAL_POWER is a good choice).
  *
  * Done: number is the column's byte count; exactly these bytes of out were written, and those after
- * them stay as they were. Refused: 1 to 4 or 6, the lowest that applies, and out stays as it was.
- * To learn how many bytes are needed, call with out_len 0: the refusal is SIGNALFERN_ROOM.
+ * them stay as they were. Refused: the first that applies of 1, 9, 2, 3, 4 and 6, and out stays as it
+ * was. To learn how many bytes are needed, call with out_len 0: the refusal is SIGNALFERN_ROOM.
  */
 signalfern_reply signalfern_write(const uint32_t *ids, size_t ids_len,
                                   const int64_t *values, size_t values_len,
-                                  uint32_t power, uint8_t *out, size_t out_len);
+                                  uint32_t edition, uint32_t power,
+                                  uint8_t *out, size_t out_len);
 
 /*
  * Tells whether the bytes are a column, to the last bit.

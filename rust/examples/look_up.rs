@@ -2,7 +2,7 @@
 //!
 //!     cargo run --example look_up
 
-use signalfern::{Answer, Column, Error};
+use signalfern::{Answer, Column, Edition, Error};
 
 fn main() -> Result<(), Error> {
     // Every third id of a block: it is stored as a bitmap with ranks. Of the next block every
@@ -10,7 +10,7 @@ fn main() -> Result<(), Error> {
     let ids = (0..65_536).step_by(3).chain((65_536..131_072).step_by(100));
     let ids: Vec<u32> = ids.collect();
     let values: Vec<i64> = ids.iter().map(|&id| i64::from(id) * 10).collect();
-    let mut bytes = signalfern::write_to_vec(&ids, &values, 9)?;
+    let mut bytes = signalfern::write_to_vec(&ids, &values, Edition::Plain, 9)?;
     ask(
         &Column::open(&bytes)?,
         &[0, 600, 601, 65_535, 98_336, 98_337],

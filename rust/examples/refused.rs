@@ -5,7 +5,7 @@
 
 use std::{env, fs, io};
 
-use signalfern::{Checked, Refusal};
+use signalfern::{Checked, Edition, Refusal};
 
 fn main() -> io::Result<()> {
     let files: Vec<_> = env::args_os().skip(1).collect();
@@ -20,7 +20,7 @@ fn main() -> io::Result<()> {
 
 /// A small column, and what may become of it.
 fn small_ones() -> io::Result<()> {
-    let sound = signalfern::write_to_vec(&[0, 2, 7], &[150, 140, 135], 9)?;
+    let sound = signalfern::write_to_vec(&[0, 2, 7], &[150, 140, 135], Edition::Plain, 9)?;
     let mut changed = sound.clone();
     changed[14] = 3;
     tell("as it was written", &sound);

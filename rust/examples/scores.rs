@@ -6,7 +6,7 @@ use std::collections::BTreeMap;
 use std::path::PathBuf;
 use std::{env, fs, io};
 
-use signalfern::{write_pairs, Checked, USUAL_POWER};
+use signalfern::{write_pairs, Checked, Edition, USUAL_POWER};
 
 fn main() -> io::Result<()> {
     let path = env::args_os()
@@ -15,7 +15,7 @@ fn main() -> io::Result<()> {
 
     // A column is written from pairs in ascending order of their ids.
     let scores = BTreeMap::from([(7, 135), (0, 150), (70_000, -20), (2, 140)]);
-    fs::write(&path, write_pairs(scores, USUAL_POWER)?)?;
+    fs::write(&path, write_pairs(scores, Edition::Plain, USUAL_POWER)?)?;
 
     // It is checked once, and then asked as often as one likes.
     let bytes = fs::read(&path)?;

@@ -2,16 +2,16 @@
 
 use std::collections::TryReserveError;
 
-use crate::{ffi, Error, Refusal};
+use crate::{ffi, Edition, Error, Refusal};
 
 /// What a look-up answers, where it does not refuse.
 ///
 /// There is no third case; a case may tell more in a later version.
 ///
 /// ```
-/// use signalfern::Answer;
+/// use signalfern::{Answer, Edition};
 ///
-/// let column = signalfern::write_to_vec(&[8], &[-3], 9)?;
+/// let column = signalfern::write_to_vec(&[8], &[-3], Edition::Plain, 9)?;
 /// match signalfern::look_up(&column, 8)? {
 ///     Answer::Found { ordinal, value, .. } => assert_eq!((ordinal, value), (0, -3)),
 ///     Answer::Absent { .. } => unreachable!("8 is listed"),
@@ -47,7 +47,9 @@ impl Answer {
     /// The value, if the id is listed.
     ///
     /// ```
-    /// let column = signalfern::write_to_vec(&[8], &[-3], 9)?;
+    /// use signalfern::Edition;
+    ///
+    /// let column = signalfern::write_to_vec(&[8], &[-3], Edition::Plain, 9)?;
     /// assert_eq!(signalfern::look_up(&column, 8)?.value(), Some(-3));
     /// assert_eq!(signalfern::look_up(&column, 9)?.value(), None);
     /// # Ok::<(), signalfern::Error>(())
@@ -80,7 +82,9 @@ impl Answer {
     /// How many entries of a sparse block were probed: at most 12, and 0 in a block of another kind.
     ///
     /// ```
-    /// let column = signalfern::write_to_vec(&[0, 2, 7], &[150, 140, 135], 9)?;
+    /// use signalfern::Edition;
+    ///
+    /// let column = signalfern::write_to_vec(&[0, 2, 7], &[150, 140, 135], Edition::Plain, 9)?;
     /// // The middle one is probed first.
     /// assert_eq!(signalfern::look_up(&column, 2)?.probes(), 1);
     /// assert_eq!(signalfern::look_up(&column, 7)?.probes(), 2);
@@ -126,12 +130,15 @@ pub(crate) fn answer(answer: ffi::Answer) -> Result<Answer, Refusal> {
 /// Writes the column of the pairs `(ids[i], values[i])` to the front of `out`, and gives its byte
 /// count. The bytes of `out` after it stay as they were.
 ///
-/// `power` is the rank power: 0 for no ranks, or 7 to 15 for one rank to every 2^power places
-/// of a block that is stored as a bitmap. The usual one is [`USUAL_POWER`](crate::USUAL_POWER).
+/// `edition` says how the values are stored. `power` is the rank power: 0 for no ranks, or 7 to 15 for
+/// one rank to every 2^power places of a block that is stored as a bitmap. The usual one is
+/// [`USUAL_POWER`](crate::USUAL_POWER).
 ///
 /// ```
+/// use signalfern::Edition;
+///
 /// let mut out = [0xAA; 30];
-/// let len = signalfern::write(&[0, 2, 7], &[150, 140, 135], 9, &mut out)?;
+/// let len = signalfern::write(&[0, 2, 7], &[150, 140, 135], Edition::Plain, 9, &mut out)?;
 /// assert_eq!(len, 27);
 /// assert_eq!(out[27..], [0xAA; 3]);
 /// # Ok::<(), signalfern::Refusal>(())
@@ -140,9 +147,16 @@ pub(crate) fn answer(answer: ffi::Answer) -> Result<Answer, Refusal> {
 /// # Errors
 ///
 /// The first that applies of [`Refusal::Lengths`], [`Refusal::Power`], [`Refusal::Order`],
-/// [`Refusal::Range`] and [`Refusal::Room`]; `out` then stays as it was.
-pub fn write(ids: &[u32], values: &[i64], power: u32, out: &mut [u8]) -> Result<usize, Refusal> {
-    len(ffi::write(ids, values, power, out))
+/// [`Refusal::Range`] and [`Refusal::Room`]; `out` then stays as it was. ([`Refusal::Edition`] comes
+/// after the first of them, and cannot come here: there is no `Edition` that is none.)
+pub fn write(
+    ids: &[u32],
+    values: &[i64],
+    edition: Edition,
+    power: u32,
+    out: &mut [u8],
+) -> Result<usize, Refusal> {
+    len(ffi::write(ids, values, edition.number(), power, out))
 }
 
 /// So many places that hold 0, without an abort where there is no memory for them.
@@ -156,7 +170,7 @@ pub(crate) fn places<T: Clone + Default>(count: usize) -> Result<Vec<T>, TryRese
 /// Writes the column of the pairs to a vector of just its length. See [`write()`].
 ///
 /// ```
-/// let empty = signalfern::write_to_vec(&[], &[], 9)?;
+/// let empty = signalfern::write_to_vec(&[], &[], signalfern::Edition::Plain, 9)?;
 /// assert_eq!(empty.len(), 23);
 /// # Ok::<(), signalfern::Error>(())
 /// ```
@@ -164,13 +178,18 @@ pub(crate) fn places<T: Clone + Default>(count: usize) -> Result<Vec<T>, TryRese
 /// # Errors
 ///
 /// [`Error::Refused`] with those of [`write()`], but for [`Refusal::Room`]; [`Error::Memory`].
-pub fn write_to_vec(ids: &[u32], values: &[i64], power: u32) -> Result<Vec<u8>, Error> {
-    let mut column = match write(ids, values, power, &mut []) {
+pub fn write_to_vec(
+    ids: &[u32],
+    values: &[i64],
+    edition: Edition,
+    power: u32,
+) -> Result<Vec<u8>, Error> {
+    let mut column = match write(ids, values, edition, power, &mut []) {
         Err(Refusal::Room { needed }) => places(needed)?,
         Err(refusal) => return Err(refusal.into()),
         Ok(_) => unreachable!("no column is empty"),
     };
-    write(ids, values, power, &mut column)?;
+    write(ids, values, edition, power, &mut column)?;
     Ok(column)
 }
 
@@ -181,17 +200,18 @@ pub fn write_to_vec(ids: &[u32], values: &[i64], power: u32) -> Result<Vec<u8>, 
 ///
 /// ```
 /// use std::collections::BTreeMap;
+/// use signalfern::{Edition, USUAL_POWER};
 ///
 /// let scores = BTreeMap::from([(7, 135), (0, 150), (2, 140)]);
-/// let column = signalfern::write_pairs(scores, signalfern::USUAL_POWER)?;
-/// assert_eq!(column, signalfern::write_to_vec(&[0, 2, 7], &[150, 140, 135], 9)?);
+/// let column = signalfern::write_pairs(scores, Edition::Plain, USUAL_POWER)?;
+/// assert_eq!(signalfern::Checked::new(&column)?.get(2), Some(140));
 /// # Ok::<(), signalfern::Error>(())
 /// ```
 ///
 /// # Errors
 ///
 /// Those of [`write_to_vec`] for the list of all pairs.
-pub fn write_pairs<I>(pairs: I, power: u32) -> Result<Vec<u8>, Error>
+pub fn write_pairs<I>(pairs: I, edition: Edition, power: u32) -> Result<Vec<u8>, Error>
 where
     I: IntoIterator<Item = (u32, i64)>,
 {
@@ -211,7 +231,7 @@ where
             break;
         }
     }
-    write_to_vec(&ids, &values, power)
+    write_to_vec(&ids, &values, edition, power)
 }
 
 /// Tells whether the bytes are a column to the last bit, and gives its count of pairs.
@@ -220,9 +240,9 @@ where
 /// with the pairs.
 ///
 /// ```
-/// use signalfern::Refusal;
+/// use signalfern::{Edition, Refusal};
 ///
-/// let mut column = signalfern::write_to_vec(&[0, 2, 7], &[150, 140, 135], 9)?;
+/// let mut column = signalfern::write_to_vec(&[0, 2, 7], &[150, 140, 135], Edition::Plain, 9)?;
 /// assert_eq!(signalfern::check(&column), Ok(3));
 /// *column.last_mut().unwrap() |= 1;
 /// assert_eq!(signalfern::check(&column), Err(Refusal::Damaged));
@@ -241,7 +261,9 @@ pub fn check(bytes: &[u8]) -> Result<u64, Refusal> {
 /// after them stay as they were. The bytes are checked in full first.
 ///
 /// ```
-/// let column = signalfern::write_to_vec(&[0, 2, 7], &[150, 140, 135], 9)?;
+/// use signalfern::Edition;
+///
+/// let column = signalfern::write_to_vec(&[0, 2, 7], &[150, 140, 135], Edition::Plain, 9)?;
 /// let (mut ids, mut values) = ([9; 4], [9; 4]);
 /// let count = signalfern::read(&column, &mut ids, &mut values)?;
 /// assert_eq!(count, 3);
@@ -264,7 +286,9 @@ pub fn read(bytes: &[u8], ids: &mut [u32], values: &mut [i64]) -> Result<usize, 
 /// them. [`check`] tells the count first.
 ///
 /// ```
-/// let column = signalfern::write_to_vec(&[0, 2, 7], &[150, 140, 135], 9)?;
+/// use signalfern::Edition;
+///
+/// let column = signalfern::write_to_vec(&[0, 2, 7], &[150, 140, 135], Edition::Plain, 9)?;
 /// let (ids, values) = signalfern::read_to_vecs(&column)?;
 /// assert_eq!((ids, values), (vec![0, 2, 7], vec![150, 140, 135]));
 /// # Ok::<(), signalfern::Error>(())

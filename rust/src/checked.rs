@@ -12,9 +12,9 @@ use crate::{Column, Refusal};
 /// exactly one list of pairs: an id has its value or none, and there is nothing left to refuse.
 ///
 /// ```
-/// use signalfern::{Checked, Refusal};
+/// use signalfern::{Checked, Edition, Refusal};
 ///
-/// let mut bytes = signalfern::write_to_vec(&[0, 2, 7], &[150, 140, 135], 9)?;
+/// let mut bytes = signalfern::write_to_vec(&[0, 2, 7], &[150, 140, 135], Edition::Plain, 9)?;
 /// let scores = Checked::new(&bytes)?;
 /// assert_eq!((scores.get(7), scores.get(5)), (Some(135), None));
 /// assert_eq!(scores.iter_from(1).collect::<Vec<_>>(), [(2, 140), (7, 135)]);

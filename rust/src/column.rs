@@ -3,15 +3,15 @@
 use std::fmt;
 
 use crate::calls::{answer, Answer};
-use crate::{ffi, Refusal};
+use crate::{ffi, Edition, Refusal};
 
 /// A column that was opened: its bytes, and the numbers of its header, read once so that a look-up
 /// need not.
 ///
 /// ```
-/// use signalfern::Column;
+/// use signalfern::{Column, Edition};
 ///
-/// let bytes = signalfern::write_to_vec(&[3, 70_000], &[-5, 10], 9)?;
+/// let bytes = signalfern::write_to_vec(&[3, 70_000], &[-5, 10], Edition::Plain, 9)?;
 /// let column = Column::open(&bytes)?;
 /// assert_eq!((column.len(), column.smallest(), column.divisor()), (2, -5, 15));
 ///
@@ -23,7 +23,9 @@ use crate::{ffi, Refusal};
 /// It borrows the bytes, so no look-up can be handed others:
 ///
 /// ```compile_fail,E0505
-/// let bytes = signalfern::write_to_vec(&[3], &[-5], 9)?;
+/// use signalfern::Edition;
+///
+/// let bytes = signalfern::write_to_vec(&[3], &[-5], Edition::Plain, 9)?;
 /// let column = signalfern::Column::open(&bytes)?;
 /// drop(bytes);
 /// column.look_up(3)?;
@@ -99,10 +101,13 @@ impl<'a> Column<'a> {
         self.numbers.count == 0
     }
 
-    /// The edition: 1.
+    /// The edition.
     #[must_use]
-    pub const fn edition(&self) -> u64 {
-        self.numbers.edition
+    pub const fn edition(&self) -> Edition {
+        match Edition::from_number(self.numbers.edition) {
+            Some(edition) => edition,
+            None => panic!("libsignalfern_c opened a column of an edition unknown here"),
+        }
     }
 
     /// n, the count of pairs; [`len`](Self::len) as the header has it.
@@ -129,7 +134,7 @@ impl<'a> Column<'a> {
         self.numbers.jump_count
     }
 
-    /// w, the bits of a stored number: 0 to 64.
+    /// w, the bits of a stored number: 0 to 64, of which edition 2 has some only.
     #[must_use]
     pub const fn width(&self) -> u64 {
         self.numbers.width
@@ -138,7 +143,9 @@ impl<'a> Column<'a> {
     /// The smallest value.
     ///
     /// ```
-    /// let bytes = signalfern::write_to_vec(&[1, 2], &[i64::MIN, 0], 0)?;
+    /// use signalfern::Edition;
+    ///
+    /// let bytes = signalfern::write_to_vec(&[1, 2], &[i64::MIN, 0], Edition::Plain, 0)?;
     /// assert_eq!(signalfern::Column::open(&bytes)?.smallest(), i64::MIN);
     /// # Ok::<(), signalfern::Error>(())
     /// ```
@@ -182,9 +189,9 @@ impl fmt::Debug for Column<'_> {
 /// numbers and any bytes may be asked, and [`look_up_in`](Self::look_up_in) answers.
 ///
 /// ```
-/// use signalfern::{Column, Header, Refusal};
+/// use signalfern::{Column, Edition, Header, Refusal};
 ///
-/// let bytes = signalfern::write_to_vec(&[3, 70_000], &[-5, 10], 9)?;
+/// let bytes = signalfern::write_to_vec(&[3, 70_000], &[-5, 10], Edition::Plain, 9)?;
 /// let mut header = Column::open(&bytes)?.header();
 /// assert_eq!(header.look_up_in(&bytes, 3)?.value(), Some(-5));
 /// assert_eq!(header.look_up_in(&bytes[1..], 3), Err(Refusal::Length));
@@ -197,7 +204,7 @@ impl fmt::Debug for Column<'_> {
 #[non_exhaustive]
 #[must_use]
 pub struct Header {
-    /// The edition: 1.
+    /// The edition's number: see [`Edition::from_number`].
     pub edition: u64,
     /// n, the count of pairs.
     pub count: u64,

@@ -11,9 +11,9 @@ use crate::Refusal;
 /// and [`read`](crate::read) need none and give a bare [`Refusal`].
 ///
 /// ```
-/// use signalfern::{Error, Refusal};
+/// use signalfern::{Edition, Error, Refusal};
 ///
-/// let error = signalfern::write_to_vec(&[4, 4], &[1, 2], 9).unwrap_err();
+/// let error = signalfern::write_to_vec(&[4, 4], &[1, 2], Edition::Plain, 9).unwrap_err();
 /// assert_eq!(error, Error::Refused(Refusal::Order { index: 1 }));
 /// assert_eq!(error.refusal(), Some(Refusal::Order { index: 1 }));
 /// ```

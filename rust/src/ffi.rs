@@ -99,6 +99,7 @@ extern "C" {
         ids_len: usize,
         values: *const i64,
         values_len: usize,
+        edition: u32,
         power: u32,
         out: *mut u8,
         out_len: usize,
@@ -164,7 +165,13 @@ extern "C" {
     fn signalfern_set_find(bytes: *const u8, len: usize, id: u32) -> Member;
 }
 
-pub(crate) fn write(ids: &[u32], values: &[i64], power: u32, out: &mut [u8]) -> Reply {
+pub(crate) fn write(
+    ids: &[u32],
+    values: &[i64],
+    edition: u32,
+    power: u32,
+    out: &mut [u8],
+) -> Reply {
     // SAFETY: three slices with their own lengths; `out` is borrowed for this call alone.
     unsafe {
         signalfern_write(
@@ -172,6 +179,7 @@ pub(crate) fn write(ids: &[u32], values: &[i64], power: u32, out: &mut [u8]) -> 
             ids.len(),
             values.as_ptr(),
             values.len(),
+            edition,
             power,
             out.as_mut_ptr(),
             out.len(),

@@ -115,9 +115,9 @@ impl LayeredAnswer {
 /// Why a look-up in two columns refused, and which of them did.
 ///
 /// ```
-/// use signalfern::{Layer, Refusal};
+/// use signalfern::{Edition, Layer, Refusal};
 ///
-/// let machine = signalfern::write_to_vec(&[0, 2], &[150, 140], 9)?;
+/// let machine = signalfern::write_to_vec(&[0, 2], &[150, 140], Edition::Plain, 9)?;
 /// let refused = signalfern::look_up_layered(&machine, b"", 2).unwrap_err();
 /// assert_eq!((refused.layer, refused.refusal), (Layer::Correction, Refusal::Short { bytes: 0 }));
 /// assert!(refused.to_string().starts_with("the correction column: "));
@@ -187,8 +187,10 @@ pub fn look_up_layered(
 /// of the machine column.
 ///
 /// ```
-/// let machine = signalfern::write_to_vec(&[0, 2, 7], &[150, 140, 135], 9)?;
-/// let correction = signalfern::write_to_vec(&[2, 4], &[0, 255], 9)?;
+/// use signalfern::Edition;
+///
+/// let machine = signalfern::write_to_vec(&[0, 2, 7], &[150, 140, 135], Edition::Plain, 9)?;
+/// let correction = signalfern::write_to_vec(&[2, 4], &[0, 255], Edition::Plain, 9)?;
 /// let values = signalfern::layered_values(&machine, &correction, 7);
 /// assert!(std::ptr::eq(values, &machine[26..]));
 /// assert_eq!(values, [0xD0]);
@@ -206,10 +208,10 @@ pub fn layered_values<'a>(machine: &'a [u8], correction: &'a [u8], id: u32) -> &
 /// A machine column with a correction on top, both opened: the stenographer's scores are preferred.
 ///
 /// ```
-/// use signalfern::{Column, Layer, Layered};
+/// use signalfern::{Column, Edition, Layer, Layered};
 ///
-/// let machine = signalfern::write_to_vec(&[0, 2, 7], &[150, 140, 135], 9)?;
-/// let correction = signalfern::write_to_vec(&[2, 4], &[0, 255], 9)?;
+/// let machine = signalfern::write_to_vec(&[0, 2, 7], &[150, 140, 135], Edition::Plain, 9)?;
+/// let correction = signalfern::write_to_vec(&[2, 4], &[0, 255], Edition::Plain, 9)?;
 /// let scores = Layered::new(Column::open(&machine)?, Column::open(&correction)?);
 ///
 /// let answer = scores.look_up(2)?;
@@ -256,13 +258,13 @@ impl<'a> Layered<'a> {
     /// as the bytes that were opened:
     ///
     /// ```
-    /// use signalfern::{Column, Layered};
+    /// use signalfern::{Column, Edition, Layered};
     ///
     /// fn values_of<'a>(machine: Column<'a>, correction: Column<'a>) -> &'a [u8] {
     ///     Layered::new(machine, correction).values_of(2)
     /// }
-    /// let machine = signalfern::write_to_vec(&[2, 7], &[140, 135], 9)?;
-    /// let correction = signalfern::write_to_vec(&[], &[], 9)?;
+    /// let machine = signalfern::write_to_vec(&[2, 7], &[140, 135], Edition::Plain, 9)?;
+    /// let correction = signalfern::write_to_vec(&[], &[], Edition::Plain, 9)?;
     /// let values = values_of(Column::open(&machine)?, Column::open(&correction)?);
     /// assert!(std::ptr::eq(values, &machine[machine.len() - 1..]));
     /// # Ok::<(), signalfern::Error>(())

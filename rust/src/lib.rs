@@ -13,9 +13,11 @@
 //! values.
 //!
 //! ```
+//! use signalfern::Edition;
+//!
 //! let ids = [0, 2, 7];
 //! let values = [150, 140, 135];
-//! let column = signalfern::write_to_vec(&ids, &values, 9)?;
+//! let column = signalfern::write_to_vec(&ids, &values, Edition::Plain, 9)?;
 //! assert_eq!(column.len(), 27);
 //!
 //! let scores = signalfern::Checked::new(&column)?;
@@ -35,10 +37,10 @@
 //! refusal changes no lent byte.
 //!
 //! ```
-//! use signalfern::Refusal;
+//! use signalfern::{Edition, Refusal};
 //!
 //! let mut out = [0; 64];
-//! let refusal = signalfern::write(&[4, 4], &[1, 2], 9, &mut out).unwrap_err();
+//! let refusal = signalfern::write(&[4, 4], &[1, 2], Edition::Plain, 9, &mut out).unwrap_err();
 //! assert_eq!(refusal, Refusal::Order { index: 1 });
 //! assert_eq!((refusal.number(), refusal.name()), (3, "ORDER"));
 //! assert_eq!(out, [0; 64]);
@@ -50,6 +52,7 @@ compile_error!("the proved library is built for x86-64 Linux alone");
 mod calls;
 mod checked;
 mod column;
+mod edition;
 mod error;
 mod ffi;
 mod layered;
@@ -62,6 +65,7 @@ mod set;
 pub use calls::{check, look_up, read, read_to_vecs, write, write_pairs, write_to_vec, Answer};
 pub use checked::Checked;
 pub use column::{Column, Header};
+pub use edition::Edition;
 pub use error::Error;
 pub use layered::{layered_values, look_up_layered, Layer, Layered, LayeredAnswer, LayeredRefusal};
 pub use next::{next, Candidate, Candidates, Cursor};

@@ -11,9 +11,9 @@ use crate::{ffi, Column, Header, Refusal, MAX_ID};
 /// any one is fit: an answer goes by the bytes, the target and this number alone.
 ///
 /// ```
-/// use signalfern::{Column, Cursor, Refusal};
+/// use signalfern::{Column, Cursor, Edition, Refusal};
 ///
-/// let bytes = signalfern::write_to_vec(&[0, 2, 7], &[150, 140, 135], 9)?;
+/// let bytes = signalfern::write_to_vec(&[0, 2, 7], &[150, 140, 135], Edition::Plain, 9)?;
 /// let column = Column::open(&bytes)?;
 /// let mut cursor = Cursor::new();
 /// let mut id = |target| column.next(&mut cursor, target).map(|it| it.map(|it| it.id));
@@ -105,9 +105,9 @@ impl<'a> Column<'a> {
     /// [`next`](crate::next()), sooner.
     ///
     /// ```
-    /// use signalfern::{Column, Cursor};
+    /// use signalfern::{Column, Cursor, Edition};
     ///
-    /// let bytes = signalfern::write_to_vec(&[3, 70_000], &[-5, 10], 9)?;
+    /// let bytes = signalfern::write_to_vec(&[3, 70_000], &[-5, 10], Edition::Plain, 9)?;
     /// let column = Column::open(&bytes)?;
     /// let mut cursor = Cursor::new();
     /// let next = column.next(&mut cursor, 4)?.expect("70000 is listed");
@@ -131,7 +131,9 @@ impl<'a> Column<'a> {
     /// [`Checked::iter_from`](crate::Checked::iter_from) gives them sooner.
     ///
     /// ```
-    /// let bytes = signalfern::write_to_vec(&[0, 2, 7], &[150, 140, 135], 9)?;
+    /// use signalfern::Edition;
+    ///
+    /// let bytes = signalfern::write_to_vec(&[0, 2, 7], &[150, 140, 135], Edition::Plain, 9)?;
     /// let column = signalfern::Column::open(&bytes)?;
     /// for candidate in column.candidates_from(1) {
     ///     let candidate = candidate?;

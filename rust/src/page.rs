@@ -132,9 +132,9 @@ impl fmt::Debug for Page<'_> {
 /// it; a refused look-up is an answer too. The places after them stay as they were.
 ///
 /// ```
-/// use signalfern::{PageAnswer, MAX_ID};
+/// use signalfern::{Edition, MAX_ID, PageAnswer};
 ///
-/// let column = signalfern::write_to_vec(&[0, 2, 7], &[150, 140, 135], 9)?;
+/// let column = signalfern::write_to_vec(&[0, 2, 7], &[150, 140, 135], Edition::Plain, 9)?;
 /// let (mut ordinals, mut values, mut kinds) = ([0; 8], [0; 8], [0; 8]);
 /// let ids = [7, 5, 7, MAX_ID + 1];
 /// let page = signalfern::look_up_page(&column, &ids, &mut ordinals, &mut values, &mut kinds)?;
@@ -176,7 +176,9 @@ const IDS: usize = 1000;
 /// Looks ids up page by page, and gives a vector of the answers in their order. See [`look_up_page`].
 ///
 /// ```
-/// let column = signalfern::write_to_vec(&[0, 2, 7], &[150, 140, 135], 9)?;
+/// use signalfern::Edition;
+///
+/// let column = signalfern::write_to_vec(&[0, 2, 7], &[150, 140, 135], Edition::Plain, 9)?;
 /// let answers = signalfern::look_up_page_to_vec(&column, &[7, 5, 7])?;
 /// let values: Vec<Option<i64>> = answers.iter().map(|answer| answer.value()).collect();
 /// assert_eq!(values, [Some(135), None, Some(135)]);

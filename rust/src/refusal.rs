@@ -39,7 +39,7 @@ pub enum Refusal {
         /// or the tenth byte of one that is not 1.
         place: usize,
     },
-    /// The first header number is not 1.
+    /// The first header number, or what the writer was told, is the number of no edition.
     Edition,
     /// A header rule is broken.
     Header,
@@ -195,7 +195,7 @@ impl fmt::Display for Refusal {
             ),
             Self::Edition => write!(
                 f,
-                "the first number is not 1: this is no column, or one of another edition"
+                "the edition is not 1 or 2: this is no column, or one of a later edition"
             ),
             Self::Header => write!(
                 f,

@@ -101,12 +101,12 @@ pub fn set_find(bytes: &[u8], id: u32) -> Result<Option<u64>, Refusal> {
 /// left to refuse. It and a column of the same ids answer alike: that is proved.
 ///
 /// ```
-/// use signalfern::{Checked, Refusal, Set};
+/// use signalfern::{Checked, Edition, Refusal, Set};
 ///
 /// let ids = [0, 2, 7];
 /// let (set, column) = (
 ///     signalfern::set_write_to_vec(&ids)?,
-///     signalfern::write_to_vec(&ids, &[150, 140, 135], 9)?,
+///     signalfern::write_to_vec(&ids, &[150, 140, 135], Edition::Plain, 9)?,
 /// );
 /// let (set, column) = (Set::new(&set)?, Checked::new(&column)?);
 /// assert_eq!(set.len(), column.len());

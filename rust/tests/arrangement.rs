@@ -4,7 +4,7 @@ mod common;
 
 use common::damage::{asked, large_columns, small_columns, Tally};
 use common::parts::{self, Parts};
-use common::{ids_of, same, values_of_width, Random, POWERS};
+use common::{ids_of, same, values_of_width, Random, EDITIONS, POWERS};
 
 /// Rewrites the blocks of a sound column in some way that a writer would not.
 fn rearranged(random: &mut Random, sound: &Parts) -> Parts {
@@ -103,7 +103,8 @@ fn blocks_and_entries_rearranged() {
             .collect();
         let ids = ids_of(&mut random, &blocks);
         let values = values_of_width(&mut random, ids.len(), 4);
-        let column = signalfern::write_to_vec(&ids, &values, random.pick(&POWERS)).unwrap();
+        let (edition, power) = (random.pick(&EDITIONS), random.pick(&POWERS));
+        let column = signalfern::write_to_vec(&ids, &values, edition, power).unwrap();
         let (sound, asked) = (Parts::of(&column), asked(&column));
         for _ in 0..30 {
             let changed = rearranged(&mut random, &sound).bytes_with_lengths();
@@ -153,7 +154,7 @@ fn headers_that_nobody_read() {
                     made.count = random.below(9) as u64;
                     made.width = random.below(9) as u64;
                 }
-                11 => made.edition = random.pick(&[0, 2, wild]),
+                11 => made.edition = random.pick(&[0, 1, 2, 3, wild]),
                 _ => made = signalfern::Header::default(),
             }
             if random.one_in(2) && made.count <= 1 << 32 && made.width <= 64 {

@@ -34,7 +34,7 @@ static int pages(void)
         ids[i] = i;
         values[i] = 7;
     }
-    size_t len = signalfern_write(ids, 5000, values, 5000, 9, bytes, sizeof bytes).number;
+    size_t len = signalfern_write(ids, 5000, values, 5000, SIGNALFERN_PLAIN, 9, bytes, sizeof bytes).number;
     const uint32_t asked[] = {600, SIGNALFERN_MAX_ID + 1, 6000, 600};
     uint64_t ordinals[] = {1, 2, 3, 4, 5};
     int64_t scores[] = {1, 2, 3, 4, 5};
@@ -57,6 +57,39 @@ static int pages(void)
     PROMISE(same_page(signalfern_look_up_page(NULL, 0, asked, 2, ordinals, 2, scores, 2, kinds, 2), 0, 2, 0));
     PROMISE(kinds[0] == SIGNALFERN_SHORT && kinds[1] == SIGNALFERN_ID && ordinals[0] == 0 && scores[0] == 0);
     PROMISE(same_page(signalfern_look_up_page(NULL, 0, NULL, 0, NULL, 0, NULL, 0, NULL, 0), 0, 0, 0));
+    return 0;
+}
+
+/* The editions: what the writer is told, and what a column of each is. Stored are 3, 1 and 0. */
+static int editions(void)
+{
+    PROMISE(SIGNALFERN_PLAIN == 1 && SIGNALFERN_LUCENE == 2);
+    const uint32_t ids[] = {0, 2, 7}, twice[] = {4, 4};
+    const int64_t values[] = {150, 140, 135};
+    uint8_t out[64], before[64];
+    memset(out, 0x5A, sizeof out);
+    memcpy(before, out, sizeof out);
+    /* Any other is refused with 9, after the lengths and before the power. */
+    const uint32_t none[] = {0, 3, 4, 257, UINT32_MAX};
+    for (size_t i = 0; i < sizeof none / sizeof none[0]; i++) {
+        signalfern_reply reply = signalfern_write(twice, 2, values, 3, none[i], 6, out, sizeof out);
+        PROMISE(reply.refusal == SIGNALFERN_LENGTHS && reply.number == 0);
+        reply = signalfern_write(twice, 2, values, 2, none[i], 6, out, sizeof out);
+        PROMISE(reply.refusal == SIGNALFERN_EDITION && reply.number == 0);
+        reply = signalfern_write(NULL, 0, NULL, 0, none[i], 9, NULL, 0);
+        PROMISE(reply.refusal == SIGNALFERN_EDITION && reply.number == 0);
+    }
+    signalfern_reply reply = signalfern_write(twice, 2, values, 2, SIGNALFERN_LUCENE, 6, out, sizeof out);
+    PROMISE(reply.refusal == SIGNALFERN_POWER && memcmp(out, before, sizeof out) == 0);
+    const uint8_t last[] = {0xD0, 0x07};
+    for (uint32_t edition = SIGNALFERN_PLAIN; edition <= SIGNALFERN_LUCENE; edition++) {
+        reply = signalfern_write(ids, 3, values, 3, edition, 9, out, sizeof out);
+        PROMISE(reply.refusal == 0 && reply.number == 27 && out[0] == edition && out[26] == last[edition - 1]);
+        signalfern_column column = signalfern_open(out, 27);
+        PROMISE(column.refusal == 0 && column.edition == edition && column.width == 2);
+        PROMISE(same_answer(signalfern_look_up_in(column, out, 27, 2), SIGNALFERN_FOUND, 1, 140, 0, 1));
+        PROMISE(signalfern_check(out, 27).number == 3);
+    }
     return 0;
 }
 
@@ -107,7 +140,7 @@ static int next_refusals(signalfern_column column, const uint8_t *bytes, size_t 
     PROMISE(cut.kind == SIGNALFERN_SHORT && cut.number == 1 && cut.id == 0 && cut.cursor.last == 7);
     /* Of any other column: the header rules, an edition that is none among them, then the length. */
     PROMISE(same_next(signalfern_next_in(column, seven, bytes, len - 1, 8), SIGNALFERN_LENGTH, 0, 0, 0, 7));
-    column.edition = 2;
+    column.edition = 3;
     PROMISE(same_next(signalfern_next_in(column, seven, bytes, len - 1, 8), SIGNALFERN_HEADER, 0, 0, 0, 7));
     PROMISE(same_next(signalfern_next_in(column, seven, bytes, len, 6), SIGNALFERN_BACK, 0, 0, 0, 7));
     PROMISE(same_next(signalfern_next_in(column, seven, bytes, len, SIGNALFERN_MAX_ID + 1), SIGNALFERN_ID, 0, 0, 0, 7));
@@ -160,13 +193,13 @@ static int next_candidates(void)
     const uint32_t ids[] = {4, SIGNALFERN_MAX_ID};
     const int64_t values[] = {-1, 9};
     static uint8_t bytes[1 << 19];
-    signalfern_reply reply = signalfern_write(ids, 2, values, 2, 0, bytes, sizeof bytes);
+    signalfern_reply reply = signalfern_write(ids, 2, values, 2, SIGNALFERN_PLAIN, 0, bytes, sizeof bytes);
     PROMISE(reply.refusal == 0);
     signalfern_column column = signalfern_open(bytes, reply.number);
     if (next_answers(column, bytes, reply.number) || next_refusals(column, bytes, reply.number))
         return 1;
     /* None is an answer. */
-    reply = signalfern_write(ids, 1, values, 1, 0, bytes, sizeof bytes);
+    reply = signalfern_write(ids, 1, values, 1, SIGNALFERN_PLAIN, 0, bytes, sizeof bytes);
     PROMISE(reply.refusal == 0);
     signalfern_cursor seven = {7};
     PROMISE(same_next(signalfern_next(seven, bytes, reply.number, 9), SIGNALFERN_NONE, 0, 0, 0, 9));
@@ -189,8 +222,8 @@ static size_t layers(uint8_t *machine, uint8_t *correction, size_t room, size_t 
 {
     const uint32_t ids[] = {4, 6, 8};
     const int64_t scores[] = {10, 12}, corrected[] = {-3, 5};
-    *correction_len = signalfern_write(ids + 1, 2, corrected, 2, 0, correction, room).number;
-    return signalfern_write(ids, 2, scores, 2, 9, machine, room).number;
+    *correction_len = signalfern_write(ids + 1, 2, corrected, 2, SIGNALFERN_PLAIN, 0, correction, room).number;
+    return signalfern_write(ids, 2, scores, 2, SIGNALFERN_PLAIN, 9, machine, room).number;
 }
 
 static int corrections(void)
@@ -239,7 +272,7 @@ static int refused_columns(void)
     PROMISE(same_part(signalfern_layered_values(NULL, 0, c, c_len, 6), SIGNALFERN_CORRECTION, c_len - 1, 1));
 
     signalfern_column x = signalfern_open(m, m_len), y = signalfern_open(c, c_len);
-    x.edition = 2;
+    x.edition = 3;
     PROMISE(same_layered(signalfern_look_up_layered_in(x, m, 0, y, c, c_len, 6), SIGNALFERN_FOUND, SIGNALFERN_CORRECTION, 0, -3));
     PROMISE(same_layered(signalfern_look_up_layered_in(x, m, 0, y, c, c_len, 4), SIGNALFERN_HEADER, SIGNALFERN_MACHINE, 0, 0));
     y.edition = 0;
@@ -256,11 +289,11 @@ int main(void)
     PROMISE(sizeof(signalfern_column) == 96);
 
     /* Empty arrays may be NULL. */
-    signalfern_reply reply = signalfern_write(NULL, 0, NULL, 0, 9, NULL, 0);
+    signalfern_reply reply = signalfern_write(NULL, 0, NULL, 0, SIGNALFERN_PLAIN, 9, NULL, 0);
     PROMISE(reply.refusal == SIGNALFERN_ROOM && reply.number == 23);
     uint8_t empty[24];
     memset(empty, 0xAA, sizeof empty);
-    reply = signalfern_write(NULL, 0, NULL, 0, 9, empty, sizeof empty);
+    reply = signalfern_write(NULL, 0, NULL, 0, SIGNALFERN_PLAIN, 9, empty, sizeof empty);
     PROMISE(reply.refusal == 0 && reply.number == 23 && empty[23] == 0xAA);
     reply = signalfern_read(empty, 23, NULL, 0, NULL, 0);
     PROMISE(reply.refusal == 0 && reply.number == 0);
@@ -290,18 +323,18 @@ int main(void)
     uint8_t out[64], before[64];
     memset(out, 0x5A, sizeof out);
     memcpy(before, out, sizeof out);
-    reply = signalfern_write(ids, 2, values, 3, 9, out, sizeof out);
+    reply = signalfern_write(ids, 2, values, 3, SIGNALFERN_PLAIN, 9, out, sizeof out);
     PROMISE(reply.refusal == SIGNALFERN_LENGTHS && reply.number == 0);
-    reply = signalfern_write(ids, 2, values, 2, 6, out, sizeof out);
+    reply = signalfern_write(ids, 2, values, 2, SIGNALFERN_PLAIN, 6, out, sizeof out);
     PROMISE(reply.refusal == SIGNALFERN_POWER && reply.number == 0);
-    reply = signalfern_write(ids, 2, values, 2, 9, out, sizeof out);
+    reply = signalfern_write(ids, 2, values, 2, SIGNALFERN_PLAIN, 9, out, sizeof out);
     PROMISE(reply.refusal == SIGNALFERN_ORDER && reply.number == 1);
-    reply = signalfern_write(ids + 1, 2, values, 2, 9, out, sizeof out);
+    reply = signalfern_write(ids + 1, 2, values, 2, SIGNALFERN_PLAIN, 9, out, sizeof out);
     PROMISE(reply.refusal == SIGNALFERN_RANGE && reply.number == 1);
     PROMISE(memcmp(out, before, sizeof out) == 0);
 
     /* A column, opened and not. */
-    reply = signalfern_write(ids, 1, values, 1, 0, out, sizeof out);
+    reply = signalfern_write(ids, 1, values, 1, SIGNALFERN_PLAIN, 0, out, sizeof out);
     PROMISE(reply.refusal == 0);
     size_t len = reply.number;
     signalfern_column column = signalfern_open(out, len);
@@ -334,7 +367,7 @@ int main(void)
     column.power = 7;
     PROMISE(same_answer(signalfern_look_up_in(column, out, len, 4), SIGNALFERN_FOUND, 0, -1, 0, 1));
     /* An edition that is none: a header rule, after the id and before the length. */
-    const uint64_t none[] = {0, 2, 257, UINT64_MAX};
+    const uint64_t none[] = {0, 3, 4, 257, UINT64_MAX};
     for (size_t i = 0; i < sizeof none / sizeof none[0]; i++) {
         column.edition = none[i];
         PROMISE(same_answer(signalfern_look_up_in(column, out, len, 4), SIGNALFERN_HEADER, 0, 0, 0, 0));
@@ -349,5 +382,5 @@ int main(void)
     refused.refusal = SIGNALFERN_LENGTH;
     PROMISE(memcmp(&column, &refused, sizeof column) == 0);
     PROMISE(same_answer(signalfern_look_up_in(column, out, len, 4), SIGNALFERN_HEADER, 0, 0, 0, 0));
-    return pages() || next_candidates() || corrections() || refused_columns() || sets();
+    return editions() || pages() || next_candidates() || corrections() || refused_columns() || sets();
 }

@@ -8,7 +8,7 @@ use std::{env, io, iter};
 
 use common::parts::Parts;
 use common::{few_ids, values_of_width, Random};
-use signalfern::{Error, Refusal, MAX_ID};
+use signalfern::{Edition, Error, Refusal, MAX_ID};
 
 #[test]
 fn pairs_from_an_iterator_are_the_list() {
@@ -25,9 +25,15 @@ fn pairs_from_an_iterator_are_the_list() {
         let power = random.pick(&[0, 9, 15, 6, 16]);
         let pairs = ids.iter().copied().zip(values.iter().copied());
         let hidden = pairs.clone().filter(|_| true);
-        let expected = signalfern::write_to_vec(&ids, values, power);
-        assert_eq!(signalfern::write_pairs(pairs, power), expected);
-        assert_eq!(signalfern::write_pairs(hidden, power), expected);
+        let expected = signalfern::write_to_vec(&ids, values, Edition::Plain, power);
+        assert_eq!(
+            signalfern::write_pairs(pairs, Edition::Plain, power),
+            expected
+        );
+        assert_eq!(
+            signalfern::write_pairs(hidden, Edition::Plain, power),
+            expected
+        );
     }
 }
 
@@ -39,14 +45,14 @@ fn nothing_is_taken_after_an_id_out_of_order() {
         (u32::min(taken, 5), 1)
     });
     // An endless iterator tells no length that could be reserved.
-    let refused = signalfern::write_pairs(endless.take_while(|_| true), 9);
+    let refused = signalfern::write_pairs(endless.take_while(|_| true), Edition::Plain, 9);
     assert_eq!(refused, Err(Refusal::Order { index: 5 }.into()));
     assert_eq!(taken, 6);
 }
 
 #[test]
 fn a_length_that_cannot_be_is_no_abort() {
-    let refused = signalfern::write_pairs(iter::repeat((1, 1)), 9);
+    let refused = signalfern::write_pairs(iter::repeat((1, 1)), Edition::Plain, 9);
     assert!(matches!(refused, Err(Error::Memory(_))), "{refused:?}");
 }
 
@@ -69,14 +75,17 @@ fn in_little_memory() {
 
     // With a length told, and without.
     let pairs = (0..MAX_ID).map(|id| (id, 1));
-    memory(signalfern::write_pairs(pairs.clone(), 9).map(|column| column.len()));
-    memory(signalfern::write_pairs(pairs.filter(|_| true), 9).map(|column| column.len()));
+    memory(signalfern::write_pairs(pairs.clone(), Edition::Plain, 9).map(|column| column.len()));
+    memory(
+        signalfern::write_pairs(pairs.filter(|_| true), Edition::Plain, 9)
+            .map(|column| column.len()),
+    );
 
     // Lists that fit, and a column beside them that does not: 2^38 + 1 and 2^39 have no common divisor.
     let count = 25_000_000;
     let ids: Vec<u32> = (0..count).collect();
     let values: Vec<i64> = (0..i64::from(count)).map(|i| i << 38 | i & 1).collect();
-    memory(signalfern::write_to_vec(&ids, &values, 9).map(|column| column.len()));
+    memory(signalfern::write_to_vec(&ids, &values, Edition::Plain, 9).map(|column| column.len()));
 }
 
 #[test]

@@ -3,8 +3,10 @@
 mod common;
 
 use common::parts::Parts;
-use common::{block_ids, few_ids, ids_of, same, values_of_width, Random, BLOCK_COUNTS, POWERS};
-use signalfern::{Checked, Pairs, Refusal, MAX_COUNT, MAX_ID};
+use common::{
+    block_ids, few_ids, ids_of, same, values_of_width, Random, BLOCK_COUNTS, EDITIONS, POWERS,
+};
+use signalfern::{Checked, Edition, Pairs, Refusal, MAX_COUNT, MAX_ID};
 
 /// A column of the list, and what is asked of it.
 struct Listed {
@@ -14,8 +16,8 @@ struct Listed {
 }
 
 impl Listed {
-    fn new(ids: Vec<u32>, values: Vec<i64>, power: u32) -> Self {
-        let bytes = signalfern::write_to_vec(&ids, &values, power).unwrap();
+    fn new(ids: Vec<u32>, values: Vec<i64>, edition: Edition, power: u32) -> Self {
+        let bytes = signalfern::write_to_vec(&ids, &values, edition, power).unwrap();
         Self { ids, values, bytes }
     }
 
@@ -72,7 +74,8 @@ fn every_block_kind_at_every_power() {
                 let width = random.below(20) as u32;
                 let values = values_of_width(&mut random, count, width);
                 let asked = border_ids(&mut random, &[number]);
-                Listed::new(ids, values, power).try_all(asked, 300);
+                let edition = random.pick(&EDITIONS);
+                Listed::new(ids, values, edition, power).try_all(asked, 300);
             }
         }
     }
@@ -99,7 +102,8 @@ fn missing_blocks_and_jumps() {
             asked.extend(numbers.iter().flat_map(|number| {
                 [number.saturating_sub(1), number + 1, number + 2].map(|number| number << 16 | 77)
             }));
-            Listed::new(ids, values, power).try_all(asked, 70_000);
+            let edition = random.pick(&EDITIONS);
+            Listed::new(ids, values, edition, power).try_all(asked, 70_000);
         }
     }
 }
@@ -120,7 +124,10 @@ fn every_width() {
                 values.fill_with(|| low.wrapping_add_unsigned(random.next() & most));
                 values.splice(..2.min(count), [high, low].into_iter().take(2.min(count)));
                 let asked = 0..3 * count as u32 + 2;
-                Listed::new(ids.clone(), values, 9).try_all(asked, usize::MAX);
+                for edition in EDITIONS {
+                    let listed = Listed::new(ids.clone(), values.clone(), edition, 9);
+                    listed.try_all(asked.clone(), usize::MAX);
+                }
             }
         }
     }
@@ -136,13 +143,15 @@ fn many_short_lists() {
         let asked: Vec<u32> = (ids.iter())
             .flat_map(|id| [*id, id + 1, id.saturating_sub(1), id ^ 65_536])
             .collect();
-        Listed::new(ids, values, random.pick(&POWERS)).try_all(asked, usize::MAX);
+        let edition = random.pick(&EDITIONS);
+        let listed = Listed::new(ids, values, edition, random.pick(&POWERS));
+        listed.try_all(asked, usize::MAX);
     }
 }
 
 #[test]
 fn the_walk_tells_what_is_left() {
-    let listed = Listed::new(vec![1, 70_000, 70_001], vec![5, -5, 0], 9);
+    let listed = Listed::new(vec![1, 70_000, 70_001], vec![5, -5, 0], Edition::Lucene, 9);
     let column = Checked::new(&listed.bytes).unwrap();
     let mut walk: Pairs = column.iter();
     for left in [3, 2, 1] {
@@ -174,9 +183,11 @@ fn every_id_that_there_is() {
 
 #[test]
 fn damage_makes_no_checked_column() {
-    let listed = Listed::new(vec![0, 2, 7], vec![150, 140, 135], 9);
+    let listed = Listed::new(vec![0, 2, 7], vec![150, 140, 135], Edition::Plain, 9);
     for (at, bits, refusal) in [
         (0, 2, Refusal::Edition),
+        // Of edition 2: D0 has the bits 00 00 10 low first, and 11 in the spare ones.
+        (0, 3, Refusal::Damaged),
         (2, 8, Refusal::Header),
         (3, 1, Refusal::Length),
         (14, 2, Refusal::Damaged),
@@ -193,7 +204,7 @@ fn damage_makes_no_checked_column() {
 #[test]
 fn another_column_is_no_damage() {
     // The format has no checksum: this bit makes 145 of 150, and the column of another list.
-    let mut listed = Listed::new(vec![0, 2, 7], vec![150, 140, 135], 9);
+    let mut listed = Listed::new(vec![0, 2, 7], vec![150, 140, 135], Edition::Plain, 9);
     listed.bytes[26] ^= 0x40;
     listed.values[0] = 145;
     listed.try_all([0, 2, 7], 3);

@@ -4,8 +4,8 @@ mod common;
 
 use common::damage::{asked, large_columns, small_columns, Tally};
 use common::parts::{self, Parts};
-use common::{same, Random};
-use signalfern::{Refusal, MAX_ID};
+use common::{same, Random, EDITIONS};
+use signalfern::{Edition, Refusal, MAX_ID};
 
 #[test]
 fn every_byte_of_small_columns() {
@@ -122,7 +122,8 @@ fn stored_numbers() {
     for _ in 0..20_000 {
         let count = random.below(6);
         let ids: Vec<u32> = (0..count as u32).collect();
-        let column = signalfern::write_to_vec(&ids, &vec![0; count], 9).unwrap();
+        let edition = random.pick(&EDITIONS);
+        let column = signalfern::write_to_vec(&ids, &vec![0; count], edition, 9).unwrap();
         let mut changed = Parts::of(&column);
         let width = random.pick(&[0, 1, 1, 2, 2, 3, 4, 7, 8, 9, 31, 32, 33, 62, 63, 64]);
         let step = random.pick(&[1, 1, 1, 2, 3, 5, 6, 1 << 32, 1 << 62, 1 << 63, u64::MAX]);
@@ -135,12 +136,15 @@ fn stored_numbers() {
             .collect();
         let spare = (values.len() * 8 - count * width as usize) as u32;
         if let Some(last) = values.last_mut().filter(|_| !random.one_in(10)) {
-            *last = *last >> spare << spare;
+            *last = match edition {
+                Edition::Plain => *last >> spare << spare,
+                _ => *last << spare >> spare,
+            };
         }
         changed.values = values;
         tally.try_all(&changed.bytes_with_lengths(), &ids);
     }
-    tally.has(&[0, 13, 15]);
+    tally.has(&[0, 10, 13, 15]);
     assert!(tally.0[0] > 2000, "{:?}", tally.0);
 }
 
@@ -180,7 +184,7 @@ fn bytes_of_no_meaning() {
             .map(|_| (random.next() >> random.below(60)) as u8)
             .collect();
         if let Some(first) = bytes.first_mut().filter(|_| random.one_in(2)) {
-            *first = 1;
+            *first = random.pick(&[1, 2]);
         }
         tally.try_all(&bytes, &[0, 9, MAX_ID + 1]);
     }

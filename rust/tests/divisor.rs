@@ -5,8 +5,8 @@ mod common;
 
 use common::damage::Tally;
 use common::parts::{self, Parts};
-use common::{bytes, few_ids, same, values_of_width, Random, POWERS};
-use signalfern::Refusal;
+use common::{bytes, few_ids, same, values_of_width, Random, EDITIONS, POWERS};
+use signalfern::{Edition, Refusal};
 use signalfern_reference::Answer;
 
 /// No id; ids 0 and 1; ids 0, 1 and 2: block number, count less one, places, end block, jump entries.
@@ -62,7 +62,10 @@ fn columns_by_hand() {
     for (values, header, ids, stored) in BY_HAND {
         let column = bytes(&[header, ids, stored].join(" "));
         let listed: Vec<u32> = (0..values.len() as u32).collect();
-        assert_eq!(same::write_exactly(&listed, values, 9), column);
+        assert_eq!(
+            same::write_exactly(&listed, values, Edition::Plain, 9),
+            column
+        );
         let pairs = same::read(&column, listed.len(), listed.len());
         assert_eq!(pairs, Ok((listed.clone(), values.to_vec())));
         Tally::default().try_all(&column, &listed);
@@ -93,7 +96,8 @@ fn what_the_divisor_is() {
         let ids = few_ids(&mut random, 12);
         let width = random.below(65) as u32;
         let values = values_of_width(&mut random, ids.len(), width);
-        let parts = Parts::of(&same::write_exactly(&ids, &values, POWERS[round % 10]));
+        let (edition, power) = (EDITIONS[round / 10 % 2], POWERS[round % 10]);
+        let parts = Parts::of(&same::write_exactly(&ids, &values, edition, power));
         let exact: Vec<i128> = values.iter().map(|&value| value.into()).collect();
         let smallest = exact.iter().copied().min().unwrap_or(0);
         let over: Vec<u64> = exact.iter().map(|v| (v - smallest) as u64).collect();
@@ -111,9 +115,9 @@ fn what_the_divisor_is() {
 }
 
 /// A column of that many ids in which the values may be put by their numbers.
-fn blank(count: usize) -> Parts {
+fn blank(count: usize, edition: Edition) -> Parts {
     let ids: Vec<u32> = (0..count as u32).map(|i| 3 * i).collect();
-    Parts::of(&signalfern::write_to_vec(&ids, &vec![0; count], 9).unwrap())
+    Parts::of(&signalfern::write_to_vec(&ids, &vec![0; count], edition, 9).unwrap())
 }
 
 /// Numbers of that width, or a smaller one, with 0 and 1 among them.
@@ -135,7 +139,7 @@ fn stored_numbers_of_a_column() {
     for _ in 0..4000 {
         let width = 1 + random.below(62) as u32;
         let stored = without_common_divisor(&mut random, width);
-        let mut column = blank(stored.len());
+        let mut column = blank(stored.len(), random.pick(&EDITIONS));
         let any = random.next();
         let step = random.pick(&[1, 1, 2, 3, 10, 1 << 20, any >> 40 | 1]);
         let smallest = random.pick(&[0, -1, 7, i64::MIN, i64::MAX - 100, any as i64]);
@@ -170,10 +174,16 @@ fn stored_numbers_of_a_column() {
 /// The same values by another divisor or another smallest value: a list has one column.
 #[test]
 fn the_same_values_otherwise() {
+    for edition in EDITIONS {
+        stored_otherwise(edition);
+    }
+}
+
+fn stored_otherwise(edition: Edition) {
     let ids = [2, 5, 9, 11];
     let values = [-100, 140, 20, 80];
     // Differences 240, 120, 180: g 60, stored 0, 4, 2, 3.
-    let column = same::write_exactly(&ids, &values, 9);
+    let column = same::write_exactly(&ids, &values, edition, 9);
     let sound = Parts::of(&column);
     assert_eq!(sound.numbers[parts::STEP], 60);
     assert_eq!(sound.stored(), [0, 4, 2, 3]);

@@ -5,11 +5,12 @@ mod common;
 
 use common::parts::Parts;
 use common::{bytes, same, Random};
-use signalfern::{Column, Refusal, MAX_COUNT, MAX_ID};
+use signalfern::{Column, Edition, Refusal, MAX_COUNT, MAX_ID};
 use signalfern_reference::Answer;
 
+/// The column of edition 1.
 fn list(ids: &[u32], values: &[i64], power: u32) -> Vec<u8> {
-    let column = same::write_exactly(ids, values, power);
+    let column = same::write_exactly(ids, values, Edition::Plain, power);
     assert_eq!(same::check(&column), Ok(ids.len() as u64));
     let pairs = same::read(&column, ids.len(), ids.len());
     assert_eq!(pairs, Ok((ids.to_vec(), values.to_vec())));
@@ -111,7 +112,8 @@ fn header_numbers() {
         ("81 80 80 80 80 80 80 80 80 80", number(9)),
         ("81 80 80 80 80 80 80 80 80 81 00", number(9)),
         ("00", Refusal::Edition),
-        ("02", Refusal::Edition),
+        ("02", short(1)),
+        ("03", Refusal::Edition),
         ("01", short(1)),
         // A rank power that is not allowed, and the last number is cut off.
         ("01 00 06 0E 01 00 00 01", short(8)),
@@ -133,16 +135,34 @@ fn header_numbers() {
 fn order_and_range() {
     let order = |index| Err(Refusal::Order { index });
     let range = |index| Err(Refusal::Range { index });
-    assert_eq!(same::write(&[4, 4], &[1, 2], 9, 100), order(1));
-    assert_eq!(same::write(&[4, 5, 3, 2], &[0; 4], 9, 100), order(2));
-    assert_eq!(same::write(&[MAX_ID + 1], &[1], 9, 100), range(0));
+    assert_eq!(
+        same::write(&[4, 4], &[1, 2], Edition::Plain, 9, 100),
+        order(1)
+    );
+    assert_eq!(
+        same::write(&[4, 5, 3, 2], &[0; 4], Edition::Plain, 9, 100),
+        order(2)
+    );
+    assert_eq!(
+        same::write(&[MAX_ID + 1], &[1], Edition::Plain, 9, 100),
+        range(0)
+    );
     let far = [7, MAX_ID, MAX_ID + 1, u32::MAX];
-    assert_eq!(same::write(&far, &[0; 4], 9, 100), range(2));
+    assert_eq!(same::write(&far, &[0; 4], Edition::Plain, 9, 100), range(2));
     // The whole list is tested for its order before any id for its range.
     let both = [MAX_ID + 1, 5];
-    assert_eq!(same::write(&both, &[0; 2], 9, 100), order(1));
-    assert_eq!(same::write(&both, &[0; 2], 6, 100), Err(Refusal::Power));
-    assert_eq!(same::write(&both, &[0; 3], 6, 100), Err(Refusal::Lengths));
+    assert_eq!(
+        same::write(&both, &[0; 2], Edition::Plain, 9, 100),
+        order(1)
+    );
+    assert_eq!(
+        same::write(&both, &[0; 2], Edition::Plain, 6, 100),
+        Err(Refusal::Power)
+    );
+    assert_eq!(
+        same::write(&both, &[0; 3], Edition::Plain, 6, 100),
+        Err(Refusal::Lengths)
+    );
 
     let last = list(&[MAX_ID], &[12], 9);
     let column = Column::open(&last).unwrap();
@@ -200,7 +220,7 @@ fn block_sizes() {
 #[test]
 fn powers() {
     for power in (0..40).chain([255, 256 + 9, u32::MAX]) {
-        let result = same::write(&[1], &[1], power, 100);
+        let result = same::write(&[1], &[1], Edition::Plain, power, 100);
         let allowed = signalfern::power_allowed(power);
         assert_eq!(
             result.err(),

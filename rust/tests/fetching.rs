@@ -1,11 +1,11 @@
-//! Stored numbers by index (document 02, [5]): at every width and from every place in a byte, a call
-//! has the number of its own bits, whatever stands beside them.
+//! Stored numbers by index (document 02, [5]): at every width of each edition and from every place in a
+//! byte, a call has the number of its own bits, whatever stands beside them.
 
 mod common;
 
 use common::parts::{self, Parts};
-use common::{same, Random};
-use signalfern::Cursor;
+use common::{same, Random, EDITIONS, LUCENE_WIDTHS};
+use signalfern::{Cursor, Edition};
 use signalfern_reference::Answer;
 
 /// Enough that a number starts at each place in a byte that its width leads to, and once more.
@@ -13,13 +13,24 @@ const COUNT: usize = 17;
 
 /// The ids 0 to 16, with any value section. The smallest value is -2^63 and the divisor 1, so that
 /// every number of 64 bits has a value.
-fn column(width: usize, byte: impl FnMut(usize) -> u8) -> Parts {
+fn column(edition: Edition, width: usize, byte: impl FnMut(usize) -> u8) -> Parts {
     let ids: Vec<u32> = (0..COUNT as u32).collect();
-    let written = signalfern::write_to_vec(&ids, &[i64::MIN; COUNT], 9).unwrap();
+    let written = signalfern::write_to_vec(&ids, &[i64::MIN; COUNT], edition, 9).unwrap();
     let mut parts = Parts::of(&written);
     parts.numbers[parts::WIDTH] = width as u64;
     parts.values = (0..(COUNT * width).div_ceil(8)).map(byte).collect();
     parts
+}
+
+/// Each edition with each of its widths.
+fn widths() -> impl Iterator<Item = (Edition, usize)> {
+    EDITIONS.into_iter().flat_map(|edition| {
+        let allowed = move |width: &usize| match edition {
+            Edition::Lucene => *width == 0 || LUCENE_WIDTHS.contains(&(*width as u32)),
+            _ => true,
+        };
+        (0..=64).filter(allowed).map(move |width| (edition, width))
+    })
 }
 
 /// The value of id `i` by a look-up and as the next candidate, each beside the reference.
@@ -39,15 +50,15 @@ fn value(parts: &Parts, i: usize) -> i64 {
 #[test]
 fn each_number_is_that_of_its_bits() {
     let mut random = Random::new(51);
-    for width in 0..=64 {
+    for (edition, width) in widths() {
         for parts in [
-            column(width, |_| 0xFF),
-            column(width, |k| (k * 37 + 5) as u8),
-            column(width, |_| random.next() as u8),
+            column(edition, width, |_| 0xFF),
+            column(edition, width, |k| (k * 37 + 5) as u8),
+            column(edition, width, |_| random.next() as u8),
         ] {
             for (i, stored) in parts.stored().into_iter().enumerate() {
                 let expected = i64::MIN.wrapping_add_unsigned(stored);
-                assert_eq!(value(&parts, i), expected, "width {width}, number {i}");
+                assert_eq!(value(&parts, i), expected, "{edition:?}, {width}, {i}");
             }
         }
     }
@@ -56,19 +67,19 @@ fn each_number_is_that_of_its_bits() {
 #[test]
 fn bits_beside_it_do_not_matter() {
     let mut random = Random::new(52);
-    for width in 0..=64 {
-        let parts = column(width, |_| random.next() as u8);
+    for (edition, width) in widths() {
+        let parts = column(edition, width, |_| random.next() as u8);
         for i in 0..COUNT {
             let own = i * width..(i + 1) * width;
             let mut turned = parts.clone();
             for j in (0..8 * turned.values.len()).filter(|j| !own.contains(j)) {
-                turned.values[j / 8] ^= 128 >> (j % 8);
+                turned.values[j / 8] ^= match edition {
+                    Edition::Lucene => 1 << (j % 8),
+                    _ => 128 >> (j % 8),
+                };
             }
-            assert_eq!(
-                value(&turned, i),
-                value(&parts, i),
-                "width {width}, number {i}"
-            );
+            let values = (value(&turned, i), value(&parts, i));
+            assert_eq!(values.0, values.1, "{edition:?}, {width}, {i}");
         }
     }
 }

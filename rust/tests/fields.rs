@@ -8,17 +8,21 @@ use std::ops::Range;
 use common::damage::Tally;
 use common::parts::{self, Parts};
 use common::{same, Random};
-use signalfern::{Refusal, MAX_ID};
+use signalfern::{Edition, Refusal, MAX_ID};
 
 /// Ids 0 and 1 of block 0, and 4096 of block 2: sparse and dense, a missing block, two ranks (p 15),
-/// four jump entries, stored numbers of three bits, and spare bits (3 times 4098 is 2 short of bytes).
-fn column() -> (Vec<u8>, Vec<u32>) {
+/// four jump entries, and spare bits. Stored numbers have three bits in edition 1, two in edition 2 (3
+/// times 4098 is 2 short of bytes, and 2 times 4098 is 4 short).
+fn column(edition: Edition) -> (Vec<u8>, Vec<u32>) {
     let mut random = Random::new(30);
     let mut ids = vec![0, 1];
     ids.extend((0..4096).map(|i| 131_072 + 16 * i + (i & 7)));
-    let mut values: Vec<i64> = ids.iter().map(|_| random.below(7) as i64 - 3).collect();
-    values[..3].copy_from_slice(&[-3, 3, 1]);
-    (same::write_exactly(&ids, &values, 15), ids)
+    let greatest = if edition == Edition::Plain { 7 } else { 3 };
+    let mut values: Vec<i64> = (ids.iter())
+        .map(|_| random.below(greatest) as i64 - 3)
+        .collect();
+    values[..3].copy_from_slice(&[-3, greatest as i64 - 4, -2]);
+    (same::write_exactly(&ids, &values, edition, 15), ids)
 }
 
 /// Each change of one byte that flips a bit, and three more.
@@ -64,11 +68,21 @@ fn fields(h: usize, v: usize, end: usize) -> [Field; 10] {
 
 #[test]
 fn each_field_alone() {
-    let (column, ids) = column();
+    fields_of(Edition::Plain, 1537, 0b11);
+}
+
+#[test]
+fn each_field_of_edition_2() {
+    fields_of(Edition::Lucene, 1025, 0b1111_0000);
+}
+
+/// The bytes of its value section, and the spare bits of the last of them.
+fn fields_of(edition: Edition, value_bytes: usize, spare: u8) {
+    let (column, ids) = column(edition);
     let parts = Parts::of(&column);
     let h = column.len() - parts.ids.len() - parts.values.len();
     let v = h + parts.ids.len();
-    assert_eq!((parts.ids.len(), parts.values.len()), (8246, 1537));
+    assert_eq!((parts.ids.len(), parts.values.len()), (8246, value_bytes));
     assert_eq!(parts.numbers[parts::JUMPS], 4);
     let asked = [0, 1, 2, 65_536, ids[2], ids[2000], ids[4097], MAX_ID + 1];
     let mut tally = Tally::default();
@@ -86,8 +100,8 @@ fn each_field_alone() {
             }
         }
     }
-    // Both spare bits are 0.
-    for change in 1..4 {
+    // The spare bits are 0, each of them.
+    for change in (1..=255).filter(|change| change & !spare == 0) {
         let mut bytes = column.clone();
         *bytes.last_mut().unwrap() ^= change;
         assert_eq!(same::check(&bytes), Err(Refusal::Damaged));
@@ -97,7 +111,7 @@ fn each_field_alone() {
 
 #[test]
 fn cut_or_lengthened() {
-    let (mut column, ids) = column();
+    let (mut column, ids) = column(Edition::Lucene);
     let asked = [1, ids[2000]];
     let mut tally = Tally::default();
     // Within the header a number is cut off; after it the bytes are too few.
@@ -167,6 +181,6 @@ fn columns_of_full_blocks() {
     }
     // The writer gives the smaller one.
     let ids: Vec<u32> = (0..6_553_600).collect();
-    let written = signalfern::write_to_vec(&ids, &vec![41; ids.len()], 9);
+    let written = signalfern::write_to_vec(&ids, &vec![41; ids.len()], Edition::Plain, 9);
     assert!(written.unwrap() == full_blocks(100).bytes());
 }

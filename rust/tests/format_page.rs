@@ -3,8 +3,8 @@
 mod common;
 
 use common::pages::look_up_exactly;
-use common::same;
-use signalfern::{Checked, Cursor, Layer, Refusal};
+use common::{same, EDITIONS};
+use signalfern::{Checked, Cursor, Edition, Layer, Refusal};
 
 const PAGE: &str = include_str!("../../docs/FORMAT.md");
 
@@ -33,15 +33,35 @@ fn taken_apart() -> Vec<Vec<u8>> {
 
 #[test]
 fn columns_taken_apart() {
-    let lists: [(&[u32], &[i64], u32); 3] = [
-        (&[0, 2, 7], &[150, 140, 135], 9),
-        (&[65_536], &[-1], 0),
-        (&[], &[], 9),
+    let lists: [(&[u32], &[i64], Edition, u32); 4] = [
+        (&[0, 2, 7], &[150, 140, 135], Edition::Plain, 9),
+        (&[65_536], &[-1], Edition::Plain, 0),
+        (&[], &[], Edition::Plain, 9),
+        (&[0, 2, 7], &[-2, 5, 1], Edition::Lucene, 9),
     ];
     let columns = taken_apart();
     assert_eq!(columns.len(), lists.len());
-    for ((ids, values, power), column) in lists.into_iter().zip(&columns) {
-        assert_eq!(&same::write_exactly(ids, values, power), column);
+    for ((ids, values, edition, power), column) in lists.into_iter().zip(&columns) {
+        assert_eq!(&same::write_exactly(ids, values, edition, power), column);
+    }
+}
+
+/// The sections that the page gives for stored numbers.
+#[test]
+fn stored_numbers_in_both_editions() {
+    assert!(PAGE.contains(
+        "Stored numbers 1, 1, 1, 0, 2, 2, 0, 0 at width 2 are `54 A0` in edition 1 and `15 0A` in edition 2. \
+         Stored numbers 0, 7, 3 take three bits each in edition 1, `1D 80`, and four in edition 2, `70 03`."
+    ));
+    for (values, sections) in [
+        (&[1, 1, 1, 0, 2, 2, 0, 0][..], [[0x54, 0xA0], [0x15, 0x0A]]),
+        (&[0, 7, 3], [[0x1D, 0x80], [0x70, 0x03]]),
+    ] {
+        let ids: Vec<u32> = (0..values.len() as u32).collect();
+        for (edition, section) in EDITIONS.into_iter().zip(sections) {
+            let column = same::write_exactly(&ids, values, edition, 9);
+            assert!(column.ends_with(&section), "{column:02X?}");
+        }
     }
 }
 
@@ -147,7 +167,7 @@ fn the_next_candidate() {
 #[test]
 fn a_correction_on_top() {
     let machine = taken_apart().swap_remove(0);
-    let correction = same::write_exactly(&[2], &[-1], 9);
+    let correction = same::write_exactly(&[2], &[-1], Edition::Plain, 9);
     assert!(PAGE.contains(
         "With (2, -1) on top of the first column above, id 2 has the value -1 and the ordinal 0, by the \
          correction; id 7 has the value 135 and the ordinal 2, by the machine column, from byte 26 on."

@@ -37,7 +37,8 @@ int main(void)
     const uint32_t ids[] = {0, 2, 7};
     const int64_t values[] = {-150, 140, 135};
     uint8_t column[64];
-    signalfern_reply reply = signalfern_write(ids, 3, values, 3, SIGNALFERN_USUAL_POWER, column, sizeof column);
+    signalfern_reply reply =
+        signalfern_write(ids, 3, values, 3, SIGNALFERN_LUCENE, SIGNALFERN_USUAL_POWER, column, sizeof column);
     PROMISE(reply.refusal == 0);
     size_t len = reply.number;
     reply = signalfern_check(column, len);
@@ -50,7 +51,7 @@ int main(void)
     signalfern_answer answer = signalfern_look_up(column, len, 2);
     PROMISE(answer.kind == SIGNALFERN_FOUND && answer.value == 140 && answer.ordinal == 1);
     signalfern_column opened = signalfern_open(column, len);
-    PROMISE(opened.refusal == 0 && opened.power == 9 && signalfern_smallest(opened.smallest) == -150);
+    PROMISE(opened.refusal == 0 && opened.edition == SIGNALFERN_LUCENE && opened.power == 9 && signalfern_smallest(opened.smallest) == -150);
     PROMISE(signalfern_look_up_in(opened, column, len, 3).kind == SIGNALFERN_ABSENT);
     uint64_t ordinal;
     int64_t value;

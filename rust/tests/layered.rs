@@ -6,8 +6,8 @@ mod common;
 use common::damage::{asked, large_columns, small_columns, Tally};
 use common::layers::{look_up, Look};
 use common::listed::listed;
-use common::{few_ids, ids_of, same, values_of_width, Random, POWERS, THREE_PAIRS};
-use signalfern::{Column, Refusal, MAX_ID};
+use common::{few_ids, ids_of, same, values_of_width, Random, EDITIONS, POWERS, THREE_PAIRS};
+use signalfern::{Column, Edition, Refusal, MAX_ID};
 use signalfern_reference::{Answer, Layer, LayeredAnswer};
 
 fn found(layer: Layer, ordinal: u64, value: i64, words: (u64, u64)) -> Look {
@@ -38,8 +38,8 @@ struct Listed {
 }
 
 impl Listed {
-    fn new(ids: Vec<u32>, values: Vec<i64>, power: u32) -> Self {
-        let bytes = same::write_exactly(&ids, &values, power);
+    fn new(ids: Vec<u32>, values: Vec<i64>, edition: Edition, power: u32) -> Self {
+        let bytes = same::write_exactly(&ids, &values, edition, power);
         Self {
             ids,
             values,
@@ -104,8 +104,8 @@ fn ask(machine: &Listed, correction: &Listed, ids: impl IntoIterator<Item = u32>
 
 #[test]
 fn in_both_in_one_and_in_neither() {
-    let machine = Listed::new(vec![0, 2, 7], vec![150, 140, 135], 9);
-    let correction = Listed::new(vec![2, 4, 70_000], vec![-1, 255, 3], 0);
+    let machine = Listed::new(vec![0, 2, 7], vec![150, 140, 135], Edition::Lucene, 9);
+    let correction = Listed::new(vec![2, 4, 70_000], vec![-1, 255, 3], Edition::Plain, 0);
     for (id, answer) in [
         (0, found(Layer::Machine, 0, 150, NO_WORDS)),
         (2, found(Layer::Correction, 0, -1, NO_WORDS)),
@@ -130,10 +130,10 @@ fn in_both_in_one_and_in_neither() {
 
 #[test]
 fn a_column_without_pairs() {
-    let machine = Listed::new(vec![0, 2, 7], vec![150, 140, 135], 9);
-    let empty = Listed::new(vec![], vec![], 9);
+    let machine = Listed::new(vec![0, 2, 7], vec![150, 140, 135], Edition::Plain, 9);
+    let empty = Listed::new(vec![], vec![], Edition::Lucene, 9);
     // All values equal: a value section of no bytes, at the end of its column.
-    let equal = Listed::new(vec![2, 3], vec![5, 5], 9);
+    let equal = Listed::new(vec![2, 3], vec![5, 5], Edition::Lucene, 9);
     for (below, above) in [
         (&machine, &empty),
         (&empty, &machine),
@@ -149,12 +149,11 @@ fn the_same_bytes_twice() {
     let mut random = Random::new(60);
     let ids = ids_of(&mut random, &[(0, 5000), (2, 30)]);
     let values = values_of_width(&mut random, ids.len(), 6);
-    let both = Listed::new(ids, values, 9);
-    ask(
-        &both,
-        &both,
-        (0..300_000).step_by(997).chain(both.ids[..60].to_vec()),
-    );
+    for edition in EDITIONS {
+        let both = Listed::new(ids.clone(), values.clone(), edition, 9);
+        let asked = (0..300_000).step_by(997).chain(both.ids[..60].to_vec());
+        ask(&both, &both, asked);
+    }
 }
 
 #[test]
@@ -165,10 +164,10 @@ fn each_with_its_own_rank_power() {
             let blocks = [(0, 20_000), (1, 4096), (3, 65_536)];
             let ids = ids_of(&mut random, &blocks);
             let values = values_of_width(&mut random, ids.len(), 9);
-            let machine = Listed::new(ids, values, power);
+            let machine = Listed::new(ids, values, random.pick(&EDITIONS), power);
             let ids = ids_of(&mut random, &[(0, 9000), (1, 70), (2, 50_000)]);
             let values = values_of_width(&mut random, ids.len(), 3);
-            let correction = Listed::new(ids, values, other);
+            let correction = Listed::new(ids, values, random.pick(&EDITIONS), other);
             let asked: Vec<u32> = (0..150).map(|_| random.below(5 << 16) as u32).collect();
             ask(&machine, &correction, asked);
         }
@@ -183,7 +182,8 @@ fn many_short_lists() {
             let ids = few_ids(&mut random, 30);
             let width = random.below(65) as u32;
             let values = values_of_width(&mut random, ids.len(), width);
-            Listed::new(ids, values, random.pick(&POWERS))
+            let edition = random.pick(&EDITIONS);
+            Listed::new(ids, values, edition, random.pick(&POWERS))
         });
         let listed = machine.ids.iter().chain(&correction.ids).copied();
         let asked: Vec<u32> = listed.flat_map(|id| [id, id + 1, id ^ 65_536]).collect();
@@ -193,13 +193,13 @@ fn many_short_lists() {
 
 #[test]
 fn a_damaged_correction_and_a_damaged_machine_column() {
-    let correction = same::write_exactly(&[2, 9], &[-1, 4], 9);
+    let correction = same::write_exactly(&[2, 9], &[-1, 4], Edition::Plain, 9);
     let mut broken = THREE_PAIRS;
     broken[12] = 6; // Seven places where there is room for three.
     let cases: [(&[u8], Refusal); 6] = [
         (&[], Refusal::Short { bytes: 0 }),
         (&[1, 0x80, 0], Refusal::Number { place: 2 }),
-        (&[2], Refusal::Edition),
+        (&[3], Refusal::Edition),
         (&[1, 3, 6, 16, 0, 2, 0, 1, 1], Refusal::Header),
         (&THREE_PAIRS[..26], Refusal::Length),
         (&broken, Refusal::Broken),

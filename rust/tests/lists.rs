@@ -5,8 +5,8 @@
 mod common;
 
 use common::damage::Tally;
-use common::{few_ids, same, values_of_width, Random, POWERS};
-use signalfern::{Refusal, MAX_ID};
+use common::{few_ids, same, values_of_width, Random, EDITIONS, LUCENE_WIDTHS, POWERS};
+use signalfern::{Edition, Refusal, MAX_ID};
 use signalfern_reference::Answer;
 
 /// The first and the last id of each block, and some between them, by their index.
@@ -18,9 +18,13 @@ fn chosen(ids: &[u32]) -> impl Iterator<Item = usize> + '_ {
     })
 }
 
-/// Writes the list and tries each call on its column; gives the column.
-fn there_and_back(ids: &[u32], values: &[i64], power: u32) -> Vec<u8> {
-    let column = same::write_exactly(ids, values, power);
+/// Writes the list in each edition and tries each call on its column; gives the columns.
+fn there_and_back(ids: &[u32], values: &[i64], power: u32) -> [Vec<u8>; 2] {
+    EDITIONS.map(|edition| written(ids, values, edition, power))
+}
+
+fn written(ids: &[u32], values: &[i64], edition: Edition, power: u32) -> Vec<u8> {
+    let column = same::write_exactly(ids, values, edition, power);
     let mut asked = vec![0, MAX_ID, MAX_ID + 1, u32::MAX];
     for i in chosen(ids) {
         let (id, ordinal) = (ids[i], i as u64);
@@ -148,10 +152,14 @@ fn every_width_with_a_divisor() {
                 .iter()
                 .map(|s| low.wrapping_add_unsigned(s.wrapping_mul(step)))
                 .collect();
-            let column = there_and_back(&ids, &values, 0);
-            // Document 01, "Header": w is number 5 and g number 7, from 0.
-            let numbers = common::parts::Parts::of(&column).numbers;
-            assert_eq!((numbers[5], numbers[7]), (u64::from(width), step));
+            let columns = there_and_back(&ids, &values, 0);
+            // Document 01, "Header": w is number 5 and g number 7, from 0. Edition 2 has the next width
+            // of its list.
+            let next = LUCENE_WIDTHS.into_iter().find(|&it| it >= width);
+            for (column, width) in columns.iter().zip([width, next.unwrap()]) {
+                let numbers = common::parts::Parts::of(column).numbers;
+                assert_eq!((numbers[5], numbers[7]), (u64::from(width), step));
+            }
         }
     }
 }
@@ -212,7 +220,7 @@ fn up_to_five_faults_at_once() {
         if has(4) {
             room = random.below(23);
         }
-        let result = same::write(&ids, &values, power, room);
+        let result = same::write(&ids, &values, random.pick(&EDITIONS), power, room);
         // 1 to 4 and 6 in that order, each over the whole input before the next.
         let expected = match faults {
             _ if has(0) => Some(1),

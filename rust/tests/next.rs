@@ -3,8 +3,10 @@
 
 mod common;
 
-use common::{block_ids, few_ids, ids_of, same, values_of_width, Random, BLOCK_COUNTS, POWERS};
-use signalfern::{Column, Cursor, Refusal, MAX_ID};
+use common::{
+    block_ids, few_ids, ids_of, same, values_of_width, Random, BLOCK_COUNTS, EDITIONS, POWERS,
+};
+use signalfern::{Column, Cursor, Edition, Refusal, MAX_ID};
 use signalfern_reference::{self as reference, Candidate};
 
 type Next = Result<Option<Candidate>, Refusal>;
@@ -25,11 +27,11 @@ struct Listed {
 }
 
 impl Listed {
-    fn new(ids: &[u32], values: &[i64], power: u32) -> Self {
+    fn new(ids: &[u32], values: &[i64], edition: Edition, power: u32) -> Self {
         Self {
             ids: ids.to_vec(),
             values: values.to_vec(),
-            bytes: same::write_exactly(ids, values, power),
+            bytes: same::write_exactly(ids, values, edition, power),
         }
     }
 
@@ -58,16 +60,15 @@ impl Listed {
 /// The answers to targets in turn from a new cursor, worked out by hand.
 #[track_caller]
 fn answers(ids: &[u32], values: &[i64], turns: &[(u32, Next)]) {
-    let listed = Listed::new(ids, values, 9);
-    let mut cursor = Cursor::new();
-    for &(target, answer) in turns {
-        assert_eq!(
-            same::next_from(&mut cursor, &listed.bytes, target),
-            answer,
-            "{target}"
-        );
+    for edition in EDITIONS {
+        let listed = Listed::new(ids, values, edition, 9);
+        let mut cursor = Cursor::new();
+        for &(target, answer) in turns {
+            let given = same::next_from(&mut cursor, &listed.bytes, target);
+            assert_eq!(given, answer, "{target}");
+        }
+        listed.ask(0, turns.iter().map(|turn| turn.0));
     }
-    listed.ask(0, turns.iter().map(|turn| turn.0));
 }
 
 #[test]
@@ -165,7 +166,8 @@ fn every_block_kind_at_both_ends() {
             let blocks = [(number, first), (number + 1, last)];
             let ids = ids_of(&mut random, &blocks);
             let values = values_of_width(&mut random, ids.len(), 7);
-            let listed = Listed::new(&ids, &values, POWERS[(round + 3 * turn) % 10]);
+            let (edition, power) = (EDITIONS[turn % 2], POWERS[(round + 3 * turn) % 10]);
+            let listed = Listed::new(&ids, &values, edition, power);
             let mut targets = borders(&mut random, &[number, number + 1]);
             targets.extend([ids[0], ids[first - 1], ids[first], ids[ids.len() - 1]]);
             targets.sort_unstable();
@@ -182,7 +184,8 @@ fn every_block_kind_at_every_power() {
             let ids = block_ids(&mut random, 2, count);
             let values = values_of_width(&mut random, count, 11);
             let targets = borders(&mut random, &[1, 2, 3]);
-            Listed::new(&ids, &values, power).ask(0, targets);
+            let edition = random.pick(&EDITIONS);
+            Listed::new(&ids, &values, edition, power).ask(0, targets);
         }
     }
 }
@@ -205,7 +208,8 @@ fn any_sequence_from_any_cursor() {
         let ids = few_ids(&mut random, 40);
         let width = random.below(65) as u32;
         let values = values_of_width(&mut random, ids.len(), width);
-        let listed = Listed::new(&ids, &values, random.pick(&POWERS));
+        let edition = random.pick(&EDITIONS);
+        let listed = Listed::new(&ids, &values, edition, random.pick(&POWERS));
         let span = ids.last().map_or(10, |last| last + 70_000) as usize;
         let mut target = 0;
         let targets: Vec<u32> = (0..12)
@@ -231,20 +235,22 @@ fn a_walk_over_all_pairs() {
     let blocks = [(0, 300), (1, 5000), (4, 65_536), (5, 4095), (9, 60_000)];
     let ids = ids_of(&mut random, &blocks);
     let values = values_of_width(&mut random, ids.len(), 13);
-    let listed = Listed::new(&ids, &values, 9);
-    let column = Column::open(&listed.bytes).unwrap();
-    for first in [0, 1, 65_536, 200_000, 330_000, ids[ids.len() - 1], MAX_ID] {
-        let index = ids.partition_point(|&id| id < first);
-        let walk = column.candidates_from(first).map(Result::unwrap);
-        let walk = walk.map(|it| (it.ordinal, it.id, it.value));
-        let list = (index..ids.len()).map(|i| (i as u64, ids[i], values[i]));
-        assert!(walk.eq(list), "from {first}");
+    for edition in EDITIONS {
+        let listed = Listed::new(&ids, &values, edition, 9);
+        let column = Column::open(&listed.bytes).unwrap();
+        for first in [0, 1, 65_536, 200_000, 330_000, ids[ids.len() - 1], MAX_ID] {
+            let index = ids.partition_point(|&id| id < first);
+            let walk = column.candidates_from(first).map(Result::unwrap);
+            let walk = walk.map(|it| (it.ordinal, it.id, it.value));
+            let list = (index..ids.len()).map(|i| (i as u64, ids[i], values[i]));
+            assert!(walk.eq(list), "from {first}");
+        }
     }
 }
 
 #[test]
 fn a_walk_that_ended_stays_so() {
-    let listed = Listed::new(&[2, MAX_ID], &[5, 6], 9);
+    let listed = Listed::new(&[2, MAX_ID], &[5, 6], Edition::Plain, 9);
     let column = Column::open(&listed.bytes).unwrap();
     let mut walk = column.candidates_from(3);
     assert_eq!(walk.next().unwrap().unwrap().id, MAX_ID);

@@ -6,7 +6,7 @@ mod common;
 use common::damage::{asked, large_columns, small_columns, Tally};
 use common::parts::{self, Parts};
 use common::same::{next, HIGH};
-use common::{ids_of, same, values_of_width, Random, POWERS};
+use common::{ids_of, same, values_of_width, Random, EDITIONS, POWERS};
 use signalfern::{Cursor, Header, Refusal, MAX_ID};
 
 /// Other numbers and counts of blocks, other entries, other data.
@@ -62,7 +62,8 @@ fn beside_each_id_in_turn() {
         }
         let ids = ids_of(&mut random, &blocks);
         let values = values_of_width(&mut random, ids.len(), 5);
-        let column = signalfern::write_to_vec(&ids, &values, random.pick(&POWERS)).unwrap();
+        let (edition, power) = (random.pick(&EDITIONS), random.pick(&POWERS));
+        let column = signalfern::write_to_vec(&ids, &values, edition, power).unwrap();
         let sound = Parts::of(&column);
         for _ in 0..5 {
             let bytes = changed(&mut random, &sound);
@@ -115,7 +116,7 @@ fn wild(random: &mut Random, mut header: Header, len: u64) -> Header {
         2 => header.jump_count = random.pick(&[0, 1, 2, 3, 32_768]),
         3 => header.divisor = random.pick(&[0, 2, u64::MAX]),
         4 => header.start = random.pick(&[0, len, number]),
-        5 => header.edition = random.pick(&[0, 2, number]),
+        5 => header.edition = random.pick(&[0, 1, 2, 3, number]),
         6 => {
             // The id section and the header moved by a few bytes.
             let by = random.below(5) as u64;

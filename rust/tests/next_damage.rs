@@ -6,7 +6,7 @@ mod common;
 
 use common::same::{next, HIGH};
 use common::{bytes, same, THREE_PAIRS};
-use signalfern::{Refusal, MAX_ID};
+use signalfern::{Edition, Refusal, MAX_ID};
 use signalfern_reference::Candidate;
 
 type Next = Result<Option<Candidate>, Refusal>;
@@ -157,7 +157,7 @@ fn a_dense_block() {
     // Ids 0 to 4095, each value 7, p 9: 11 bytes of header, the rank of stride t at 15 + 2t, and the
     // words at 271. No rank after stride 8 is read, since no bit is set there.
     let ids: Vec<u32> = (0..4096).collect();
-    let column = same::write_exactly(&ids, &[7; 4096], 9);
+    let column = same::write_exactly(&ids, &[7; 4096], Edition::Plain, 9);
     let lines: [Line; 8] = [
         ("set", &[], 600, found(600, 600, 7)),
         ("none", &[(31, 0xFF)], 4096, NONE),
@@ -186,7 +186,7 @@ fn a_dense_block() {
 #[test]
 fn a_value_that_does_not_fit() {
     // Ids 0 and 9 with 2^63 - 8 and 2^63 - 1: divisor 7 at byte 16, stored 0 and 1.
-    let column = same::write_exactly(&[0, 9], &[i64::MAX - 7, i64::MAX], 9);
+    let column = same::write_exactly(&[0, 9], &[i64::MAX - 7, i64::MAX], Edition::Plain, 9);
     assert_eq!(column[16], 7);
     let lines: [Line; 3] = [
         ("the greatest value", &[], 8, found(9, 1, i64::MAX)),
@@ -207,7 +207,7 @@ fn a_refusal_keeps_the_cursor() {
         (&[], 6, Refusal::Back),
         (&[], 9, Refusal::Short { bytes: 0 }),
         (&[1, 0x80, 0], 9, Refusal::Number { place: 2 }),
-        (&[2], 9, Refusal::Edition),
+        (&[3], 9, Refusal::Edition),
         (&[1, 3, 6, 16, 0, 2, 0, 1, 1], 9, Refusal::Header),
         (&THREE_PAIRS[..26], 9, Refusal::Length),
         (&wild, 9, Refusal::Broken),

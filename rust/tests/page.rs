@@ -5,8 +5,8 @@ mod common;
 use common::damage::{asked, large_columns, small_columns, Tally};
 use common::listed::listed;
 use common::pages::{look_up, look_up_exactly, Lists};
-use common::{few_ids, ids_of, same, values_of_width, Random, POWERS, THREE_PAIRS};
-use signalfern::{Column, Refusal, MAX_ID};
+use common::{few_ids, ids_of, same, values_of_width, Random, EDITIONS, POWERS, THREE_PAIRS};
+use signalfern::{Column, Edition, Refusal, MAX_ID};
 use signalfern_reference::Answer;
 
 /// 5000 ids of block 0, which is dense, and three of block 1, sparse, with 7 for each; the entry of
@@ -14,7 +14,7 @@ use signalfern_reference::Answer;
 fn partly_broken() -> Vec<u8> {
     let mut ids: Vec<u32> = (0..5000).collect();
     ids.extend([65_536, 65_538, 65_543]);
-    let mut bytes = same::write_exactly(&ids, &vec![7; ids.len()], 9);
+    let mut bytes = same::write_exactly(&ids, &vec![7; ids.len()], Edition::Plain, 9);
     // Three entries at the end, as no value takes a byte: the third byte of the start in entry 1.
     let at = bytes.len() - 2 * 8 + 4 + 2;
     bytes[at] = 0xFF;
@@ -38,11 +38,12 @@ fn each_kind_of_answer_in_one_page() {
 #[test]
 fn a_header_that_is_refused() {
     let long = [&THREE_PAIRS[..], &[0]].concat();
-    let cases: [(&[u8], u8); 7] = [
+    let cases: [(&[u8], u8); 8] = [
         (&[], 7),
         (&THREE_PAIRS[..8], 7),
         (&[1, 0x80, 0], 8),
         (&[0, 3, 9], 9),
+        (&[3, 3, 9], 9),
         (&[1, 3, 6, 16, 0, 2, 0, 1, 1], 10),
         (&THREE_PAIRS[..26], 11),
         (&long, 11),
@@ -108,7 +109,7 @@ fn no_ids() {
 fn the_words_of_all() {
     // Without ranks a block is one stride: place 65535 is in its word 1024.
     let ids: Vec<u32> = (0..65_536).filter(|id| id % 2 == 1).collect();
-    let bytes = same::write_exactly(&ids, &vec![3; ids.len()], 0);
+    let bytes = same::write_exactly(&ids, &vec![3; ids.len()], Edition::Plain, 0);
     let (_, words) = look_up_exactly(&bytes, &[65_535; 5000]);
     assert_eq!(words, 5000 * 1024);
     // A refused place counts none, and one that is absent the one word that was looked at.
@@ -153,7 +154,7 @@ fn as_the_list_has_it() {
         let width = random.below(65) as u32;
         let values = values_of_width(&mut random, ids.len(), width);
         let power = POWERS[round % 10];
-        let bytes = same::write_exactly(&ids, &values, power);
+        let bytes = same::write_exactly(&ids, &values, EDITIONS[round / 6 % 2], power);
         let count = random.pick(&[1, 2, 63, 999, 1000, 1001, 2500]);
         let mut page = some_ids(&mut random, &ids, count);
         match round % 3 {
@@ -194,7 +195,8 @@ fn many_short_lists() {
         let ids = few_ids(&mut random, 30);
         let width = random.below(65) as u32;
         let values = values_of_width(&mut random, ids.len(), width);
-        let bytes = same::write_exactly(&ids, &values, random.pick(&POWERS));
+        let edition = random.pick(&EDITIONS);
+        let bytes = same::write_exactly(&ids, &values, edition, random.pick(&POWERS));
         let count = random.below(40);
         let page = some_ids(&mut random, &ids, count);
         let mut room = || count + random.pick(&[0, 0, 1, 7]);

@@ -6,15 +6,23 @@ mod common;
 use std::collections::BTreeSet;
 
 use common::listed::listed;
-use common::{block_ids, few_ids, ids_of, same, values_of_width, Random, BLOCK_COUNTS, POWERS};
-use signalfern::{Column, Refusal, MAX_ID};
+use common::{
+    block_ids, few_ids, ids_of, same, values_of_width, Random, BLOCK_COUNTS, EDITIONS,
+    LUCENE_WIDTHS, POWERS,
+};
+use signalfern::{Column, Edition, Refusal, MAX_ID};
 
-/// Writes the pairs and reads them back with every call; gives the column.
-fn there_and_back(ids: &[u32], values: &[i64], power: u32) -> Vec<u8> {
-    let column = same::write_exactly(ids, values, power);
+/// Writes the pairs in each edition and reads them back with every call; gives the columns.
+fn there_and_back(ids: &[u32], values: &[i64], power: u32) -> [Vec<u8>; 2] {
+    EDITIONS.map(|edition| written(ids, values, edition, power))
+}
+
+fn written(ids: &[u32], values: &[i64], edition: Edition, power: u32) -> Vec<u8> {
+    let column = same::write_exactly(ids, values, edition, power);
     let count = ids.len();
     // Room to spare changes nothing.
-    assert!(same::write(ids, values, power, column.len() + 13).as_ref() == Ok(&column));
+    let spare = same::write(ids, values, edition, power, column.len() + 13);
+    assert!(spare.as_ref() == Ok(&column));
     assert_eq!(same::check(&column), Ok(count as u64));
     for (ids_len, values_len) in [(count, count), (count + 3, count + 1)] {
         let (read_ids, read_values) = same::read(&column, ids_len, values_len).unwrap();
@@ -29,12 +37,15 @@ fn there_and_back(ids: &[u32], values: &[i64], power: u32) -> Vec<u8> {
     column
 }
 
-fn look_up_all(column: &[u8], ids: &[u32], values: &[i64], power: u32, asked: &[u32]) {
-    let header = same::open(column).unwrap().header();
-    for &id in asked {
-        let answer = Ok(listed(ids, values, power, id));
-        assert_eq!(same::look_up(column, id), answer, "id {id}");
-        assert_eq!(same::look_up_in(header, column, id), answer, "id {id}");
+/// Both editions give the list's answers.
+fn look_up_all(columns: &[Vec<u8>], ids: &[u32], values: &[i64], power: u32, asked: &[u32]) {
+    for column in columns {
+        let header = same::open(column).unwrap().header();
+        for &id in asked {
+            let answer = Ok(listed(ids, values, power, id));
+            assert_eq!(same::look_up(column, id), answer, "id {id}");
+            assert_eq!(same::look_up_in(header, column, id), answer, "id {id}");
+        }
     }
 }
 
@@ -75,9 +86,9 @@ fn every_block_kind_at_every_power() {
                 &POWERS[round % 10..][..1]
             };
             for &power in powers {
-                let column = there_and_back(&ids, &values, power);
+                let columns = there_and_back(&ids, &values, power);
                 let asked = border_ids(&mut random, &[number]);
-                look_up_all(&column, &ids, &values, power, &asked);
+                look_up_all(&columns, &ids, &values, power, &asked);
             }
         }
     }
@@ -100,9 +111,9 @@ fn missing_blocks_and_jumps() {
         let values = values_of_width(&mut random, ids.len(), 9);
         let numbers: Vec<u32> = blocks.iter().map(|block| block.0).collect();
         for power in [0, random.pick(&POWERS), 9] {
-            let column = there_and_back(&ids, &values, power);
+            let columns = there_and_back(&ids, &values, power);
             let asked = border_ids(&mut random, &numbers);
-            look_up_all(&column, &ids, &values, power, &asked);
+            look_up_all(&columns, &ids, &values, power, &asked);
         }
     }
 }
@@ -125,14 +136,18 @@ fn every_width() {
                 };
                 values.fill_with(|| low.wrapping_add_unsigned(random.next() & most));
                 values.splice(..2.min(count), [high, low].into_iter().take(2.min(count)));
-                let column = there_and_back(&ids, &values, 9);
-                let opened = Column::open(&column).unwrap();
+                let columns = there_and_back(&ids, &values, 9);
+                let [opened, packed] = columns.each_ref().map(|it| Column::open(it).unwrap());
+                assert_eq!(packed.divisor(), opened.divisor());
                 if count > 1 && opened.divisor() == 1 {
                     assert_eq!(opened.width(), u64::from(width), "{low} {high}");
+                    let next = LUCENE_WIDTHS.into_iter().find(|&it| it >= width);
+                    let next = if width == 0 { 0 } else { next.unwrap() };
+                    assert_eq!(packed.width(), u64::from(next), "{low} {high}");
                     seen.insert(width);
                 }
                 let asked: Vec<u32> = (0..3 * count as u32 + 2).collect();
-                look_up_all(&column, &ids, &values, 9, &asked);
+                look_up_all(&columns, &ids, &values, 9, &asked);
             }
         }
     }
@@ -155,8 +170,8 @@ fn extreme_values() {
     for a in extremes {
         for b in extremes {
             for c in extremes {
-                let column = there_and_back(&[1, 5, 70_000], &[a, b, c], 0);
-                look_up_all(&column, &[1, 5, 70_000], &[a, b, c], 0, &[1, 5, 70_000]);
+                let columns = there_and_back(&[1, 5, 70_000], &[a, b, c], 0);
+                look_up_all(&columns, &[1, 5, 70_000], &[a, b, c], 0, &[1, 5, 70_000]);
             }
         }
     }
@@ -170,13 +185,13 @@ fn many_short_lists() {
         let width = random.below(65) as u32;
         let values = values_of_width(&mut random, ids.len(), width);
         let power = random.pick(&POWERS);
-        let column = there_and_back(&ids, &values, power);
+        let columns = there_and_back(&ids, &values, power);
         let mut asked = ids.clone();
         asked.extend(
             ids.iter()
                 .flat_map(|id| [id + 1, id.saturating_sub(1), id ^ 65_536]),
         );
-        look_up_all(&column, &ids, &values, power, &asked);
+        look_up_all(&columns, &ids, &values, power, &asked);
     }
 }
 
@@ -202,7 +217,8 @@ fn lists_that_are_refused() {
         }
         let power = random.pick(&[0, 9, 15, 7, 6, 16, 1, u32::MAX]);
         let room = random.pick(&[0, 1, 20, 60, 300, 1000]);
-        refused += usize::from(same::write(&ids, &values, power, room).is_err());
+        let edition = random.pick(&EDITIONS);
+        refused += usize::from(same::write(&ids, &values, edition, power, room).is_err());
     }
     assert!((1000..5000).contains(&refused), "{refused}");
 }

@@ -5,7 +5,7 @@ mod common;
 
 use common::parts::Parts;
 use common::{same, Random};
-use signalfern::Refusal;
+use signalfern::{Edition, Refusal};
 use signalfern_reference::{self as reference, Answer};
 
 /// A column with these places in one block; the value of each is ten times its index.
@@ -14,7 +14,7 @@ fn column(block: u32, places: &[u16]) -> Vec<u8> {
         .map(|&place| block << 16 | u32::from(place))
         .collect();
     let values: Vec<i64> = (0..places.len() as i64).map(|index| 10 * index).collect();
-    same::write_exactly(&ids, &values, 9)
+    same::write_exactly(&ids, &values, Edition::Plain, 9)
 }
 
 /// The answer for the place at an index, or for none, after so many probes.
@@ -99,7 +99,7 @@ fn no_more_than_the_bits_of_the_count() {
     let mut random = Random::new(40);
     for count in (1..=130).chain([255, 256, 1023, 1024, 2047, 2048]) {
         let ids = common::block_ids(&mut random, 1, count);
-        let column = signalfern::write_to_vec(&ids, &vec![0; count], 9).unwrap();
+        let column = signalfern::write_to_vec(&ids, &vec![0; count], Edition::Plain, 9).unwrap();
         let mut most = 0;
         for id in ids.iter().flat_map(|&id| [id - 1, id, id + 1]) {
             if let Ok(Answer::Found { probes, .. } | Answer::Absent { probes, .. }) =

@@ -4,7 +4,7 @@
 mod common;
 
 use common::same::filling;
-use common::{few_ids, ids_of, Random, POWERS};
+use common::{few_ids, ids_of, Random, EDITIONS, POWERS};
 use signalfern::{Checked, Refusal, Set, MAX_ID};
 use signalfern_reference as reference;
 
@@ -74,7 +74,8 @@ fn alike(random: &mut Random, ids: &[u32]) -> Vec<u8> {
     let set = Set::new(&bytes).unwrap();
     assert_eq!((set.len(), set.is_empty()), (ids.len(), ids.is_empty()));
     let values = vec![7; ids.len()];
-    let column = signalfern::write_to_vec(ids, &values, random.pick(&POWERS)).unwrap();
+    let (edition, power) = (random.pick(&EDITIONS), random.pick(&POWERS));
+    let column = signalfern::write_to_vec(ids, &values, edition, power).unwrap();
     let column = Checked::new(&column).unwrap().column();
     for id in asked(random, ids, 20) {
         let ordinal = find(&bytes, id);

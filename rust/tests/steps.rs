@@ -6,7 +6,7 @@ mod common;
 
 use common::damage::Tally;
 use common::{same, THREE_PAIRS};
-use signalfern::{Refusal, MAX_ID};
+use signalfern::{Edition, Refusal, MAX_ID};
 use signalfern_reference::Answer;
 
 const BROKEN: Result<Answer, Refusal> = Err(Refusal::Broken);
@@ -161,7 +161,7 @@ fn a_dense_block() {
     // + 6), 00, 00, 0E, 01, 00: 11 bytes. The head is at 11, the rank of stride t at 15 + 2t, 512t up
     // to t = 8, and the words at 271.
     let ids: Vec<u32> = (0..4096).collect();
-    let column = same::write_exactly(&ids, &[7; 4096], 9);
+    let column = same::write_exactly(&ids, &[7; 4096], Edition::Plain, 9);
     assert_eq!(column[11..19], [0, 0, 0xFF, 0x0F, 0, 0, 0x02, 0x00]);
     let lines: [Line; 8] = [
         // Word 9, of a stride that starts at word 8.

@@ -7,9 +7,10 @@ use std::process::Stdio;
 
 use common::parts::{self, Parts};
 use common::tool::{run, run_with, tool, Folder};
+use signalfern::Edition;
 
 fn small_column() -> Vec<u8> {
-    signalfern::write_to_vec(&[0, 2, 7], &[150, 140, 135], 9).unwrap()
+    signalfern::write_to_vec(&[0, 2, 7], &[150, 140, 135], Edition::Plain, 9).unwrap()
 }
 
 #[test]
@@ -148,7 +149,7 @@ fn show_stays_short() {
         (near, "0 to 2999"),
         (far, "2975 blocks in 2975 rows left out"),
     ] {
-        let bytes = signalfern::write_to_vec(&ids, &vec![-1; 3000], 9).unwrap();
+        let bytes = signalfern::write_to_vec(&ids, &vec![-1; 3000], Edition::Plain, 9).unwrap();
         let shown = run(&["show", &folder.put("column", bytes)]).expect(0, &[row]);
         assert!(shown.out.lines().count() < 60, "{}", shown.out);
     }

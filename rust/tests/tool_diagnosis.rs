@@ -6,6 +6,7 @@ use std::sync::atomic::{AtomicUsize, Ordering};
 
 use common::parts::{self, Parts};
 use common::tool::{run, Folder};
+use signalfern::Edition;
 
 /// A column with many line feeds, and with returns before some of them: places 2573 are 0D 0A. There
 /// is none in its header.
@@ -15,7 +16,7 @@ fn column() -> Vec<u8> {
         .chain([40 << 16 | 10])
         .collect();
     let values: Vec<i64> = (0..41).map(|value| 3 * (value % 11)).collect();
-    signalfern::write_to_vec(&ids, &values, 9).unwrap()
+    signalfern::write_to_vec(&ids, &values, Edition::Plain, 9).unwrap()
 }
 
 fn replaced(bytes: &[u8], from: &[u8], to: &[u8]) -> Vec<u8> {
@@ -107,7 +108,8 @@ fn length_line_endings() {
         &["refusal 11, LENGTH", "3 too many", seems, "binary mode"],
     );
     // The divisor 10 is a line feed in the header.
-    let tens = signalfern::write_to_vec(&[1, 2570, 65_546], &[0, 10, 20], 9).unwrap();
+    let tens =
+        signalfern::write_to_vec(&[1, 2570, 65_546], &[0, 10, 20], Edition::Plain, 9).unwrap();
     let longer = replaced(&tens, b"\n", b"\r\n");
     explained(&longer, &["refusal 10, HEADER", sure, "binary mode"]);
     let shorter = replaced(&column, b"\r\n", b"\n");
@@ -127,11 +129,11 @@ fn length_line_endings() {
 #[test]
 fn converted_as_text() {
     let replaced = "bytes were replaced by U+FFFD";
-    let small = signalfern::write_to_vec(&[0, 2, 7], &[150, 140, 135], 9).unwrap();
+    let small = signalfern::write_to_vec(&[0, 2, 7], &[150, 140, 135], Edition::Plain, 9).unwrap();
     // The count of pairs has two bytes, C8 01.
     let ids: Vec<u32> = (0..200).collect();
     let values: Vec<i64> = (0..200).map(|value| value % 7).collect();
-    let counted = signalfern::write_to_vec(&ids, &values, 9).unwrap();
+    let counted = signalfern::write_to_vec(&ids, &values, Edition::Plain, 9).unwrap();
     for (column, refusal) in [
         (column(), "refusal 11, LENGTH"),
         (small, "refusal 11, LENGTH"),
@@ -191,7 +193,7 @@ const FLIPPED: [(usize, u8, &str); 6] = [
 fn damage_is_placed() {
     let ids: Vec<u32> = (65_536..65_540).chain(131_072..136_072).collect();
     let values: Vec<i64> = ids.iter().map(|id| i64::from(10 * (id % 50))).collect();
-    let column = signalfern::write_to_vec(&ids, &values, 9).unwrap();
+    let column = signalfern::write_to_vec(&ids, &values, Edition::Plain, 9).unwrap();
     let folder = Folder::new("shown_damaged");
     for (at, bits, words) in FLIPPED {
         let mut parts = Parts::of(&column);
@@ -210,7 +212,7 @@ fn damage_is_placed() {
 /// Stored 3, 1, 0 with divisor 5 in byte 26, and what else may stand there.
 #[test]
 fn stored_numbers_are_explained() {
-    let column = signalfern::write_to_vec(&[0, 2, 7], &[150, 140, 135], 9).unwrap();
+    let column = signalfern::write_to_vec(&[0, 2, 7], &[150, 140, 135], Edition::Plain, 9).unwrap();
     for (byte, words) in [
         // 2, 0, 2; then 3, 0, 3.
         (

@@ -7,10 +7,12 @@ use std::process::Stdio;
 use std::time::{Duration, Instant};
 
 use common::tool::{tool, Folder};
+use signalfern::Edition;
 
 /// A column of three pairs, and one with a bit flipped.
 fn columns(folder: &Folder) {
-    let mut bytes = signalfern::write_to_vec(&[0, 2, 7], &[150, 140, 135], 9).unwrap();
+    let mut bytes =
+        signalfern::write_to_vec(&[0, 2, 7], &[150, 140, 135], Edition::Plain, 9).unwrap();
     folder.put("sound", &bytes);
     bytes[26] |= 1;
     folder.put("damaged", bytes);

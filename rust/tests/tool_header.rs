@@ -5,6 +5,7 @@ mod common;
 
 use common::tool::{run, run_with, Folder};
 use common::THREE_PAIRS;
+use signalfern::Edition;
 
 /// The header numbers of three pairs by name, and where each starts and ends.
 const NUMBERS: [(&str, usize, usize); 9] = [
@@ -155,7 +156,7 @@ fn by_json() {
 #[test]
 fn a_cause_stands_after_the_place() {
     // -2^63 is FF nine times and 01. As text each FF becomes EF BF BD, and the tenth of them is EF.
-    let column = signalfern::write_to_vec(&[5], &[i64::MIN], 9).unwrap();
+    let column = signalfern::write_to_vec(&[5], &[i64::MIN], Edition::Plain, 9).unwrap();
     let text = String::from_utf8_lossy(&column).into_owned();
     let folder = Folder::new("header_cause");
     let file = folder.put("file", text.as_bytes());

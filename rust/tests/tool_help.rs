@@ -40,6 +40,10 @@ fn usage() {
     run(&["frobnicate"]).expect(2, &["no command `frobnicate`\n"]);
     run(&["lookup", "a", "1"]).expect(2, &["did you mean `look-up`?"]);
     run(&["write", "a", "-o", "b", "--powr", "9"]).expect(2, &["did you mean `--power`?"]);
+    for edition in ["0", "3", "4294967297", "two", ""] {
+        let words = [&format!("`{edition}` is no edition: 1 or 2")[..], "--help"];
+        run(&["write", "a", "-o", "b", "--edition", edition]).expect(2, &words);
+    }
     run(&["check"]).expect(2, &["no column is named"]);
     run(&["show", "a", "b"]).expect(2, &["`b` is one word too many"]);
     run(&["write", "a"]).expect(2, &["-o COLUMN"]);
@@ -126,6 +130,7 @@ fn completions_of_bash() {
     assert!(complete("signalfern lo", 1).starts_with("look-up\n"));
     assert!(complete("signalfern write --po", 2).starts_with("--power\n"));
     assert!(complete("signalfern write -p 1", 3).starts_with("10 11 12 13 14 15\n"));
+    assert!(complete("signalfern write --edition ''", 3).starts_with("1 2\n"));
     assert!(complete("signalfern check a", 2).starts_with("a.column\n"));
     assert!(complete("signalfern help c", 2).starts_with("check\n"));
     assert!(complete("signalfern read a --limit ''", 4).starts_with('\n'));

@@ -3,6 +3,7 @@
 mod common;
 
 use common::tool::{run, run_with, Folder};
+use signalfern::Edition;
 
 /// Each bit of the id section flipped in turn: where the check refuses, so does the look-up.
 #[test]
@@ -10,7 +11,7 @@ fn a_damaged_column_gives_no_score() {
     let folder = Folder::new("damaged_scores");
     let ids: Vec<u32> = (0..6).map(|id| 3 * id).chain([70_000, 70_004]).collect();
     let values: Vec<i64> = (0..8).map(|value| 100 + 7 * value).collect();
-    let column = signalfern::write_to_vec(&ids, &values, 9).unwrap();
+    let column = signalfern::write_to_vec(&ids, &values, Edition::Plain, 9).unwrap();
     let (mut refused, mut wrong) = (0, 0);
     for bit in 0..8 * column.len() {
         let mut bytes = column.clone();
@@ -43,7 +44,8 @@ fn a_damaged_column_gives_no_score() {
 #[test]
 fn unchecked_says_so() {
     let folder = Folder::new("unchecked");
-    let mut bytes = signalfern::write_to_vec(&[0, 2, 7], &[150, 140, 135], 9).unwrap();
+    let mut bytes =
+        signalfern::write_to_vec(&[0, 2, 7], &[150, 140, 135], Edition::Plain, 9).unwrap();
     let sound = folder.put("sound", &bytes);
     bytes[26] |= 1;
     let damaged = folder.put("damaged", &bytes);
@@ -148,7 +150,7 @@ fn many_ids() {
 #[test]
 fn refused_ids_in_their_order() {
     let folder = Folder::new("refused_ids");
-    let mut bytes = signalfern::write_to_vec(&[0, 70_000], &[5, 6], 9).unwrap();
+    let mut bytes = signalfern::write_to_vec(&[0, 70_000], &[5, 6], Edition::Plain, 9).unwrap();
     // The entry of block 1 leads past the section: BROKEN, where the file is not checked.
     let at = bytes.len() - 1 - 2 * 8 + 4;
     bytes[at] = 0xFF;

@@ -3,6 +3,7 @@
 mod common;
 
 use common::tool::{run, run_with, Folder};
+use signalfern::Edition;
 
 #[test]
 fn causes_are_named() {
@@ -14,7 +15,8 @@ fn causes_are_named() {
         .encode_utf16()
         .flat_map(u16::to_be_bytes)
         .collect();
-    let column = signalfern::write_to_vec(&[0, 2, 7], &[150, 140, 135], 10).unwrap();
+    let column =
+        signalfern::write_to_vec(&[0, 2, 7], &[150, 140, 135], Edition::Plain, 10).unwrap();
     for (text, words) in [
         (&b"\xEF\xBB\xBF1 2\n"[..], "line 1: refusal 101, TEXT: the text starts with a byte order mark (BOM)"),
         (b"\xFF\xFE1\x002\x00", "this is UTF-16 text: save it as UTF-8"),

@@ -9,10 +9,11 @@ use std::thread;
 use std::time::{Duration, Instant};
 
 use common::tool::{run, run_with, tool, Folder};
+use signalfern::Edition;
 
 /// The column of the list `1 1`.
 fn one_pair() -> Vec<u8> {
-    signalfern::write_to_vec(&[1], &[1], 9).unwrap()
+    signalfern::write_to_vec(&[1], &[1], Edition::Plain, 9).unwrap()
 }
 
 #[test]

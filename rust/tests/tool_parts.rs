@@ -7,6 +7,7 @@ use std::time::{Duration, Instant};
 use common::parts::Parts;
 use common::tool::{has_program, run, Folder};
 use common::{ids_of, values_of_width, Random};
+use signalfern::Edition;
 
 fn lines(pairs: &[(u32, i64)]) -> String {
     let lines = pairs.iter().map(|(id, value)| format!("{id} {value}\n"));
@@ -117,7 +118,8 @@ fn the_first_pairs_of_two_thousand_million() {
 #[test]
 fn many_files() {
     let folder = Folder::new("many_files");
-    let mut bytes = signalfern::write_to_vec(&[0, 2, 7], &[150, 140, 135], 9).unwrap();
+    let mut bytes =
+        signalfern::write_to_vec(&[0, 2, 7], &[150, 140, 135], Edition::Plain, 9).unwrap();
     folder.put("a", &bytes);
     folder.put("c", &bytes);
     bytes[26] |= 1;
@@ -144,7 +146,8 @@ fn many_files() {
 #[test]
 fn json_of_each_file() {
     let folder = Folder::new("json");
-    let mut bytes = signalfern::write_to_vec(&[0, 2, 7], &[150, 140, 135], 9).unwrap();
+    let mut bytes =
+        signalfern::write_to_vec(&[0, 2, 7], &[150, 140, 135], Edition::Plain, 9).unwrap();
     folder.put("a", &bytes);
     bytes[26] |= 1;
     folder.put("b \"quoted\"\\", &bytes);
@@ -183,7 +186,7 @@ fn progress_goes_to_a_terminal() {
         return;
     }
     let folder = Folder::new("progress");
-    let bytes = signalfern::write_to_vec(&[0, 2, 7], &[150, 140, 135], 9).unwrap();
+    let bytes = signalfern::write_to_vec(&[0, 2, 7], &[150, 140, 135], Edition::Plain, 9).unwrap();
     folder.put("small", &bytes);
     let ids: Vec<u32> = (0..300_000).collect();
     folder.column("large", &ids, &vec![1; ids.len()]);

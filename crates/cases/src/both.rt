@@ -10,6 +10,17 @@ const UNLIKE: u64 = 98;
 
 const UNTRIED: u64 = 99;
 
+// What a writer is told.
+pub struct How {
+    pub edition: u32,
+    pub power: u32,
+}
+
+// Edition 1 at a rank power.
+pub fn plain(power: u32) -> How {
+    How { edition: 1, power }
+}
+
 fn outcome(number: u64, with: u64) -> Outcome {
     Outcome { number, with }
 }
@@ -25,20 +36,26 @@ fn numbers_of(r: Reply) -> Outcome {
     }
 }
 
-fn written(ids: &[u32], signed: &[i64], power: u32, out: &mut [u8], room: u64) -> Outcome {
+fn written(ids: &[u32], signed: &[i64], how: How, out: &mut [u8], room: u64) -> Outcome {
     let end = room as usize;
     if end > out.len() {
         return outcome(UNTRIED, 0);
     }
-    numbers_of(signalfern::write(ids, signed, power, &mut out[0..end]))
+    numbers_of(signalfern::write(ids, signed, how.edition, how.power, &mut out[0..end]))
 }
 
-fn expected(ids: &[u32], values: &[u64], power: u32, own: &mut [u8], room: u64) -> Outcome {
+fn expected(ids: &[u32], values: &[u64], how: How, own: &mut [u8], room: u64) -> Outcome {
     let end = room as usize;
     if end > own.len() {
         return outcome(UNTRIED, 0);
     }
-    reference::write(ids, values, power as u64, &mut own[0..end])
+    reference::write(
+        ids,
+        values,
+        how.edition as u64,
+        how.power as u64,
+        &mut own[0..end],
+    )
 }
 
 // Both writers on painted bytes with that much room, of which they agree on each, and on 16 after them that they were not lent.
@@ -46,7 +63,7 @@ fn compared(
     ids: &[u32],
     values: &[u64],
     signed: &[i64],
-    power: u32,
+    how: How,
     room: u64,
     own: &mut [u8],
     out: &mut [u8],
@@ -54,8 +71,8 @@ fn compared(
     let painted = wrapping_add_u64(room, 16);
     lists::paint(own, painted);
     lists::paint(out, painted);
-    let want = expected(ids, values, power, own, room);
-    let got = written(ids, signed, power, out, room);
+    let want = expected(ids, values, how, own, room);
+    let got = written(ids, signed, how, out, room);
     if !is(got, want.number, want.with) {
         return outcome(UNLIKE, 0);
     }
@@ -70,13 +87,13 @@ pub fn both(
     ids: &[u32],
     values: &[u64],
     signed: &[i64],
-    power: u32,
+    how: How,
     room: u64,
     bytes: &[u8],
 ) -> Outcome {
     let mut own = [0u8; 300000];
     let mut out = [0u8; 300000];
-    let r = compared(ids, values, signed, power, room, &mut own, &mut out);
+    let r = compared(ids, values, signed, how, room, &mut own, &mut out);
     if !lists::same(&out, bytes, bytes.len() as u64) {
         return outcome(UNLIKE, 0);
     }
@@ -84,25 +101,25 @@ pub fn both(
 }
 
 // With no room, one byte short, just room and some to spare. Answers with the column's bytes, or 0 for a disagreement.
-fn at_rooms(ids: &[u32], values: &[u64], signed: &[i64], power: u32) -> u64 {
+fn at_rooms(ids: &[u32], values: &[u64], signed: &[i64], how: How) -> u64 {
     let any = b"";
-    let n = both(ids, values, signed, power, 0, any).with;
+    let n = both(ids, values, signed, how, 0, any).with;
     let less = std::num::wrapping_sub_u64(n, 1);
     let more = wrapping_add_u64(n, 13);
-    if !is(both(ids, values, signed, power, less, any), 6, n) {
+    if !is(both(ids, values, signed, how, less, any), 6, n) {
         return 0;
     }
-    if !is(both(ids, values, signed, power, n, any), 0, n) {
+    if !is(both(ids, values, signed, how, n, any), 0, n) {
         return 0;
     }
-    if !is(both(ids, values, signed, power, more, any), 0, n) {
+    if !is(both(ids, values, signed, how, more, any), 0, n) {
         return 0;
     }
     n
 }
 
 // The first n pairs of the lists.
-fn first_pairs(n: u64, ids: &[u32], values: &[u64], signed: &[i64], power: u32) -> u64 {
+fn first_pairs(n: u64, ids: &[u32], values: &[u64], signed: &[i64], how: How) -> u64 {
     let end = n as usize;
     if end > ids.len() {
         return 0;
@@ -113,15 +130,15 @@ fn first_pairs(n: u64, ids: &[u32], values: &[u64], signed: &[i64], power: u32) 
     if end > signed.len() {
         return 0;
     }
-    at_rooms(&ids[0..end], &values[0..end], &signed[0..end], power)
+    at_rooms(&ids[0..end], &values[0..end], &signed[0..end], how)
 }
 
 // One list, of at most 80000 pairs. Answers with the column's bytes, or 0 for a disagreement.
-pub fn list(runs: Runs, v: Values, power: u32) -> u64 {
+pub fn list(runs: Runs, v: Values, how: How) -> u64 {
     let mut ids = [0u32; 80000];
     let mut values = [0u64; 80000];
     let mut signed = [0i64; 80000];
     let n = lists::fill_ids(&mut ids, runs);
     lists::fill_values(&mut values, &mut signed, n, v);
-    first_pairs(n, &ids, &values, &signed, power)
+    first_pairs(n, &ids, &values, &signed, how)
 }

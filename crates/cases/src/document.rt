@@ -1,6 +1,7 @@
 // Document 01, "Both sides of each line": the writer's lines that are not starred, and of the starred ones the whole columns and the
-// refusals; and document 02, [2]: the divisor. What is expected is the documents', or worked out from them by hand.
+// refusals; and document 02, [2]: the divisor, and [6]: edition 2. What is expected is the documents', or worked out from them by hand.
 use super::both;
+use super::both::How;
 use super::both::is;
 use super::say;
 use super::say::Tally;
@@ -8,9 +9,13 @@ use lists::Values;
 use lists::ZERO;
 
 // Do both writers write that column?
-fn column(want: &[u8], ids: &[u32], values: &[u64], signed: &[i64], power: u32) -> bool {
+fn column_by(want: &[u8], ids: &[u32], values: &[u64], signed: &[i64], how: How) -> bool {
     let end = want.len() as u64;
-    is(both::both(ids, values, signed, power, end, want), 0, end)
+    is(both::both(ids, values, signed, how, end, want), 0, end)
+}
+
+fn column(want: &[u8], ids: &[u32], values: &[u64], signed: &[i64], power: u32) -> bool {
+    column_by(want, ids, values, signed, both::plain(power))
 }
 
 fn columns() -> Tally {
@@ -96,12 +101,13 @@ fn scores() -> Tally {
 fn block(name: &[u8], count: u64, power: u32, bytes: u64) -> Tally {
     let sevens = Values {
         smallest: ZERO + 7,
+        most: 0,
         mask: 0,
         shift: 0,
     };
     let ids = lists::one(lists::run_of(0, 1, count));
     let want = std::num::wrapping_add_u64(bytes, 17);
-    say::case(name, both::list(ids, sevens, power) == want)
+    say::case(name, both::list(ids, sevens, both::plain(power)) == want)
 }
 
 fn blocks() -> Tally {
@@ -112,14 +118,18 @@ fn blocks() -> Tally {
 }
 
 // Do both writers answer so to these ids, with the smallest value and 0, at that power and with that much room?
-fn answered(ids: &[u32], power: u32, room: u64, number: u64, with: u64) -> bool {
+fn answered_by(ids: &[u32], how: How, room: u64, number: u64, with: u64) -> bool {
     let values = [0u64, ZERO];
     let signed = [!9223372036854775807i64, 0];
     is(
-        both::both(ids, &values, &signed, power, room, b""),
+        both::both(ids, &values, &signed, how, room, b""),
         number,
         with,
     )
+}
+
+fn answered(ids: &[u32], power: u32, room: u64, number: u64, with: u64) -> bool {
+    answered_by(ids, both::plain(power), room, number, with)
 }
 
 // The column of ids 0 and 1 is that of the smallest value and 0 above: 27 bytes of header, 14 of ids, 1 of values.
@@ -148,10 +158,49 @@ fn refusals() -> Tally {
     ))
 }
 
+// Eight ids of block 0: 4 and 16 bytes, and 6 of the end block, make L 26 (1A). Smallest value 0, divisor 1, width 2: V 2. An edition
+// that there is not is told after LENGTHS and before POWER.
+fn editions() -> Tally {
+    let eight = column_by(
+        b"\x02\x08\x09\x1A\x00\x02\x00\x01\x02\x00\x00\x07\x00\x00\x00\x01\x00\x02\x00\x03\x00\x04\x00\x05\x00\
+          \x06\x00\x07\x00\xFF\x7F\x00\x00\xFF\xFF\x15\x0A",
+        &[0u32, 1, 2, 3, 4, 5, 6, 7],
+        &[
+            ZERO + 1,
+            ZERO + 1,
+            ZERO + 1,
+            ZERO,
+            ZERO + 2,
+            ZERO + 2,
+            ZERO,
+            ZERO,
+        ],
+        &[1i64, 1, 1, 0, 2, 2, 0, 0],
+        How {
+            edition: 2,
+            power: 9,
+        },
+    );
+    let other = How {
+        edition: 9,
+        power: 6,
+    };
+    let t = say::case(b"stored 1, 1, 1, 0, 2, 2, 0, 0 in edition 2: 15 0A", eight);
+    let t = t.and(say::case(
+        b"edition 9, one id and two values: LENGTHS",
+        answered_by(&[1u32], other, 100, 1, 0),
+    ));
+    t.and(say::case(
+        b"edition 9 at p 6: EDITION",
+        answered_by(&[0u32, 1], other, 100, 9, 0),
+    ))
+}
+
 pub fn lines() -> Tally {
     columns()
         .and(blocks())
         .and(extremes())
         .and(scores())
         .and(refusals())
+        .and(editions())
 }

@@ -1,6 +1,7 @@
 // The library's fetch beside the second one: every width from 0 to 64, every index from 0 to 16, the number and its bytes.
 use super::say;
 use super::say::Tally;
+use packings::Order;
 
 fn alike(s: &[u8], w: usize, i: usize) -> bool {
     if w > 64 {
@@ -13,7 +14,7 @@ fn alike(s: &[u8], w: usize, i: usize) -> bool {
         return false;
     }
     let want = reference::fetching::number(s, w as u64, i as u64);
-    let got = packing::fetch(s, w, i);
+    let got = packings::fetch(s, Order::High, w, i);
     got.number == want.number && got.bytes as u64 == want.bytes
 }
 

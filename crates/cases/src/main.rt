@@ -21,12 +21,13 @@ fn power_of(k: u32) -> u32 {
 fn at_powers(name: &[u8], ids: Runs) -> Tally {
     let v = Values {
         smallest: ZERO - 6,
+        most: 7,
         mask: 7,
         shift: 1,
     };
     let mut t = Tally::none();
     for k in 0..10u32 {
-        t = t.with(both::list(ids, v, power_of(k)) > 0);
+        t = t.with(both::list(ids, v, both::plain(power_of(k))) > 0);
     }
     say::lists(name, t)
 }
@@ -87,10 +88,11 @@ fn more_blocks() -> Tally {
 fn of_width(mask: u64, shift: u64) -> bool {
     let v = Values {
         smallest: 0,
+        most: mask,
         mask,
         shift,
     };
-    both::list(lists::one(run_of(5, 3, 67)), v, 9) > 0
+    both::list(lists::one(run_of(5, 3, 67)), v, both::plain(9)) > 0
 }
 
 // With the divisor 1, and with the greatest power of 2 that leaves the width.
@@ -103,10 +105,63 @@ fn widths() -> Tally {
     say::lists(b"widths 0 to 64, with divisor 1 and 2^(64-w)", t)
 }
 
+// The k-th of Lucene 9's widths.
+fn width(k: u64) -> u64 {
+    match k {
+        0 => 1,
+        1 => 2,
+        2 => 4,
+        3 => 8,
+        4 => 12,
+        5 => 16,
+        6 => 20,
+        7 => 24,
+        8 => 28,
+        9 => 32,
+        10 => 40,
+        11 => 48,
+        12 => 56,
+        _ => 64,
+    }
+}
+
+// Edition 2: n values, of which the greatest stored number is the last that fits a width, or one more.
+fn at_border(n: u64, w: u64, more: bool) -> bool {
+    let last = 18446744073709551615u64 >> (std::num::wrapping_sub_u64(64, w) % 64);
+    let v = Values {
+        smallest: 0,
+        most: if more {
+            std::num::wrapping_add_u64(last, 1)
+        } else {
+            last
+        },
+        mask: last,
+        shift: 0,
+    };
+    let how = both::How {
+        edition: 2,
+        power: 9,
+    };
+    both::list(lists::one(run_of(5, 3, n)), v, how) > 0
+}
+
+// Of 0 to 9 values, at the end of each width and, but for the last, one past it.
+fn borders() -> Tally {
+    let mut t = Tally::none();
+    for k in 0..270u64 {
+        t = t.with(at_border(k % 10, width(k / 20), k / 10 % 2 == 1));
+    }
+    say::lists(
+        b"edition 2, each width's last number and one more, 0 to 9 values",
+        t,
+    )
+}
+
 fn main() {
     let t = document::lines();
     let t = t.and(one_block());
     let t = t.and(more_blocks());
     let t = t.and(widths());
+    let t = t.and(borders());
     say::total(t.and(fetching::numbers()));
 }

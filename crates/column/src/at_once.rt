@@ -3,11 +3,14 @@ ghost use mathlib.Core.Path.{_≡_};
 ghost use mathlib.Core.List.{[], _∷_};
 ghost use Prim.Native.Nat.{_+_, _/_, _%_, _≤_};
 ghost use lib.ListN.{length};
-ghost use Rattle.format.specs.Editions.{plain, editions};
+ghost use Rattle.format.specs.Editions.{editions};
 ghost use Rattle.format.specs.Opening.{headFrom, openColumn};
+ghost use Rattle.values.specs.Edition.{editionOf};
 ghost use Rattle.column.specs.Opened.{headIs, columnOf, judgedAs, ReadOn};
 use super::Column;
 use super::Head;
+use super::Known;
+use super::edition_in;
 use header_numbers::quick_byte;
 use header_numbers::quick_more;
 use header_numbers::quick_number;
@@ -51,11 +54,21 @@ fn no_header() -> Column
 }
 
 // The header of eight numbers that were read.
-fn quick_head(n: u64, p: u64, l: u64, j: u64, w: u64, smallest: u64, g: u64, v: u64) -> Head
-    ensures { λ r. ⌜ headIs r ≡ headFrom plain (n / 16 ∷ p / 16 ∷ l / 16 ∷ j / 16 ∷ w / 16 ∷ smallest / 16 ∷ g / 16 ∷ v / 16 ∷ []) ⌝ }
+fn quick_head(
+    edition: Edition,
+    n: u64,
+    p: u64,
+    l: u64,
+    j: u64,
+    w: u64,
+    smallest: u64,
+    g: u64,
+    v: u64,
+) -> Head
+    ensures { λ r. ⌜ headIs r ≡ headFrom (editionOf edition) (n / 16 ∷ p / 16 ∷ l / 16 ∷ j / 16 ∷ w / 16 ∷ smallest / 16 ∷ g / 16 ∷ v / 16 ∷ []) ⌝ }
 {
     Head {
-        edition: Edition::Plain,
+        edition,
         count: value_in(n),
         power: value_in(p),
         id_bytes: value_in(l),
@@ -70,9 +83,9 @@ fn quick_head(n: u64, p: u64, l: u64, j: u64, w: u64, smallest: u64, g: u64, v: 
 }
 
 // The numbers from w on, at a place after those of n, p, L and J.
-fn quick_values(bytes: &[u8], n: u64, p: u64, l: u64, j: u64, at: usize) -> Column
+fn quick_values(bytes: &[u8], edition: Edition, n: u64, p: u64, l: u64, j: u64, at: usize) -> Column
     requires { ⌜ (at ≤ 21) × (45 ≤ length (now bytes)) ⌝ }
-    ensures { λ r. ⌜ ((r .head .«id_bytes» ≡ 0 → ⊥) → ReadOn (now (bytes .entry)) at (n / 16) (p / 16) (l / 16) (j / 16) (columnOf r)) ⌝ }
+    ensures { λ r. ⌜ ((r .head .«id_bytes» ≡ 0 → ⊥) → ReadOn (editionOf edition) (now (bytes .entry)) at (n / 16) (p / 16) (l / 16) (j / 16) (columnOf r)) ⌝ }
 {
     let w = quick_byte(bytes, at);
     if w == 0 {
@@ -95,12 +108,12 @@ fn quick_values(bytes: &[u8], n: u64, p: u64, l: u64, j: u64, at: usize) -> Colu
     }
     let start = place_after(after_g, v);
     Column {
-        head: quick_head(n, p, l, j, w, smallest, g, v),
+        head: quick_head(edition, n, p, l, j, w, smallest, g, v),
         start: start as u64,
     }
 }
 
-// The header's numbers in edition 1, not tested, where each has at most five bytes and edition, power and width one; else an id section of 0 bytes.
+// The header's numbers, not tested, where each has at most five bytes and edition, power and width one; else an id section of 0 bytes.
 // Each test stands by itself: a place then waits for a guessed branch, and not for the byte before it.
 pub fn quick(bytes: &[u8]) -> Column
     ensures { λ r. ⌜ ((r .head .«id_bytes» ≡ 0 → ⊥) → openColumn editions (now (bytes .entry)) ≡ judgedAs (now (bytes .entry)) (columnOf r)) ⌝ }
@@ -108,9 +121,13 @@ pub fn quick(bytes: &[u8]) -> Column
     if bytes.len() < 45 {
         return no_header();
     }
-    if quick_byte(bytes, 0) != 17 {
+    let first = quick_byte(bytes, 0);
+    if first % 16 != 1 {
         return no_header();
     }
+    let Known::Is(edition) = edition_in(value_in(first)) else {
+        return no_header();
+    };
     let n = quick_more(bytes, 1);
     if n == 0 {
         return no_header();
@@ -131,5 +148,5 @@ pub fn quick(bytes: &[u8]) -> Column
         return no_header();
     }
     let after_j = place_after(after_l, j);
-    quick_values(bytes, n, p, l, j, after_j)
+    quick_values(bytes, edition, n, p, l, j, after_j)
 }

@@ -1,6 +1,7 @@
 -- Every computed case about the definitions, in one statement: document 01's starred table, both sides of each refusal's line, and of
 -- document 02 the next candidate ([1]), the divisor ([2]), the places ([4]), the bytes of a fetch ([5]), the probes ([8]) and a correction
 -- on top ([10]).
+-- document 02 the divisor ([2]), the places ([4]), the bytes of a fetch ([5]), edition 2 ([6]) and the probes ([8]).
 -- (It is the first of these files to be checked, so that a slip in a definition shows as the case that it breaks.) Assumes nothing.
 use Rattle.format.proofs.Starred.{Starred, starred}
 use Rattle.format.proofs.Pins.{WriterCases, writer-cases, DivisorCases, divisor-cases, HeaderCases, header-cases}
@@ -12,6 +13,7 @@ use Rattle.format.proofs.PinsSteps.{DamageCases, damage-cases, StepCase
 use Rattle.format.proofs.PinsProbes.{HalvingCases, halving-cases, ProbeCases, probe-cases}
 use Rattle.format.proofs.PinsTaken.{TakenCases, taken-cases}
 use Rattle.format.proofs.PinsPage.{PageCases, page-cases}
+use Rattle.format.proofs.PinsLucene.{LowCases, low-cases, LuceneCases, lucene-cases, ToldCases, told-cases}
 
 pub record AllCases : Type 0 where
   pub starred-table : Starred
@@ -35,6 +37,9 @@ pub record AllCases : Type 0 where
   pub set-find-table : SetFindCases
   pub taken-table : TakenCases
   pub page-table : PageCases
+  pub low-table : LowCases
+  pub lucene-table : LuceneCases
+  pub told-table : ToldCases
 
 pub all-cases : AllCases
 all-cases =
@@ -60,4 +65,7 @@ all-cases =
       set-find-table = set-find-cases;
       taken-table = taken-cases;
       page-table = page-cases;
+      low-table = low-cases;
+      lucene-table = lucene-cases;
+      told-table = told-cases;
     }

@@ -5,15 +5,16 @@ use Rattle.format.specs.Refusals.{andThen, need, given, needNone}
 use Rattle.format.specs.Bytes.{bytesOf, countFrom, digits, same, fromDigits, lowAt, highAt}
 use Rattle.format.specs.HeaderNumbers.{groups, number, above, readGroups, readNumber, gotAt, numberAt, numbersAt}
 use Rattle.format.specs.Bits.{bitOf, gather, tabulate, packed, bitAt, fetched, fetchedBytes}
+use Rattle.format.specs.BitsLow.{bitLow, gatherLow, packedLow, bitLowAt, fetchedLow}
 use Rattle.format.specs.Ids.{push, runs, kindOf, byKind, rankBytes, dataBytes, blockBytes, bitmap, countBelow, rankTable, blockData, blockOf, endBlock}
 use Rattle.format.specs.Ids.{jumpsFrom, notTwo, jumps, entryBytes, blocks, idSection}
 use Rattle.format.specs.IdsRead.{shorts, placesIn, readRuns, idsOf}
 use Rattle.format.specs.Values.{leastOf, mostOf, smallest, greatest, spread, gcdIn, gcd, gcdFrom, differences, divisor}
 use Rattle.format.specs.Values.{bitsIn, bitLength, width, stored, valueAt}
 use Rattle.format.specs.Codec.{scaled, signed64}
-use Rattle.format.specs.Editions.{numberOf, editions, editionIn, highFirst, codec}
+use Rattle.format.specs.Editions.{numberOf, editions, editionIn, highFirst, luceneWidths, firstEnough, among, lowFirst, codec}
 use Rattle.format.specs.Column.{headOf, headNumbers, column}
-use Rattle.format.specs.Writer.{notAbove, orderFault, rangeFault, writeAs, writeReply}
+use Rattle.format.specs.Writer.{notAbove, orderFault, rangeFault, writeAs, write, writeReply}
 use Rattle.format.specs.Opening.{openColumn, headFrom, headOk, idPart, valuePart, valueIn, valueOf}
 use Rattle.format.specs.Check.{check, allValues, pairsIn, isDone, isColumn, accepted, reading}
 use Rattle.format.specs.LookUp.{scan, halveIn, halve, inSparse, onesFrom, strideLong, strideRank, denseAt, placeAt, probesAt, entryAt, answer, fromEntry}
@@ -28,14 +29,14 @@ use Rattle.format.specs.Page.{placeKind, placeOrdinal, placeValue, place
 
 unfoldable pub computing : Type 0
 unfolding bind onesIn andThen need given needNone bytesOf countFrom digits same fromDigits lowAt highAt groups number above readGroups readNumber
-    gotAt numberAt numbersAt bitOf gather tabulate packed bitAt fetched fetchedBytes push runs kindOf byKind rankBytes dataBytes blockBytes bitmap countBelow
-    rankTable blockData blockOf endBlock jumpsFrom notTwo jumps entryBytes blocks idSection shorts placesIn readRuns idsOf leastOf mostOf smallest
-    greatest spread gcdIn gcd gcdFrom differences divisor bitsIn bitLength width stored valueAt scaled signed64 numberOf editions editionIn highFirst
-    codec headOf headNumbers column notAbove orderFault rangeFault writeAs writeReply openColumn headFrom headOk idPart valuePart valueIn valueOf
-    check allValues pairsIn isDone isColumn accepted reading scan halveIn halve inSparse onesFrom strideLong strideRank denseAt placeAt probesAt
-    entryAt answer fromEntry steps entered probesFrom stepProbes lookUp openedProbes lookUpProbes lookUpIn indexOf seenOr walkFrom walk
-    listedPlaces probes decides inTurn nextSteps next nextIn lastAfter firstFrom listNext inSequence
-    ascFrom setKind begins past missing setList setData setBlockAs setBlock setBytes setWrite listLengthOk setDataBytes setDataFits setDataOk setPlaces
-    dataFrom lengthFrom kindFrom blockFrom setRun blocksFrom setIds setCheck listed memberIn setFind
-    placeKind placeOrdinal placeValue placeWords page pageWords pageReply pageAfter
+    gotAt numberAt numbersAt bitOf gather tabulate packed bitAt fetched fetchedBytes push runs kindOf byKind rankBytes dataBytes blockBytes bitmap
+    countBelow rankTable blockData blockOf endBlock jumpsFrom notTwo jumps entryBytes blocks idSection shorts placesIn readRuns idsOf leastOf mostOf
+    smallest greatest spread gcdIn gcd gcdFrom differences divisor bitsIn bitLength width stored valueAt scaled signed64 numberOf editions editionIn
+    highFirst codec headOf headNumbers column notAbove orderFault rangeFault writeAs writeReply openColumn headFrom headOk idPart valuePart valueIn
+    valueOf check allValues pairsIn isDone isColumn accepted reading scan halveIn halve inSparse onesFrom strideLong strideRank denseAt placeAt
+    probesAt entryAt answer fromEntry steps entered probesFrom stepProbes lookUp openedProbes lookUpProbes lookUpIn indexOf seenOr walkFrom walk
+    listedPlaces probes decides inTurn nextSteps next nextIn lastAfter firstFrom listNext inSequence ascFrom setKind begins past missing setList
+    setData setBlockAs setBlock setBytes setWrite listLengthOk setDataBytes setDataFits setDataOk setPlaces dataFrom lengthFrom kindFrom blockFrom
+    setRun blocksFrom setIds setCheck listed memberIn setFind placeKind placeOrdinal placeValue placeWords page pageWords pageReply pageAfter bitLow
+    gatherLow packedLow bitLowAt fetchedLow luceneWidths firstEnough among lowFirst write
 computing = Unit {0}

@@ -1,14 +1,14 @@
 -- The demands as theorems about the definitions alone: the round trip and "accepted if and only if" (demand 2), the look-up against
 -- the walk and the list, with its words (demand 3), header numbers, and the look-up in an opened column. Demands 2 and 3 are stated
--- once, for every edition whose codec is lawful and every reader of such editions, and then for edition 1. Each statement cites
--- definitions of specs/ and `Lawful` only. The starred cases are `Starred.starred`. Assumes nothing.
+-- once, for every edition whose codec is lawful and every reader of such editions, and then for the calls, where none is left out. Each
+-- statement cites definitions of specs/ and `Lawful` only. The starred cases are `Starred.starred`. Assumes nothing.
 use Rattle.format.specs.Kit.{_≡_, refl, sym, ap, ap₂, _∙_, subst, true, false, List, _++_, ℕ, _^_, _<_, _≤_, arith, leb, ℤ, pos, length, getD}
-use Rattle.format.specs.Kit.{drop, leb-true}
+use Rattle.format.specs.Kit.{drop, none, eqb, leb-true, eq-eqb, ne-eqb}
 use Rattle.format.specs.Limits.{maxId}
-use Rattle.format.specs.Refusals.{Outcome, done, refused, andThen, need, ROOM, DAMAGED}
+use Rattle.format.specs.Refusals.{Outcome, done, refused, andThen, need, given, LENGTHS, ROOM, EDITION, DAMAGED}
 use Rattle.format.specs.HeaderNumbers.{number, got, readNumber}
 use Rattle.format.specs.Ids.{countBelow}
-use Rattle.format.specs.Editions.{Edition, plain, editions, Knows, codec}
+use Rattle.format.specs.Editions.{Edition, numberOf, editions, editionIn, Knows, codec}
 use Rattle.format.specs.Pairs.{Pairs, Below, Asc, Valid}
 use Rattle.format.specs.Column.{column, headOf}
 use Rattle.format.specs.Writer.{writeAs, write}
@@ -27,6 +27,7 @@ use Rattle.format.proofs.Looked as Looked
 use Rattle.format.proofs.Walked as Walked
 use Rattle.format.proofs.Starred as Table
 use Rattle.format.proofs.Words.{words-le, few-words, listed-at, listed-each}
+use Rattle.format.proofs.Cases.{true-or}
 use Rattle.format.proofs.Tests.{result, needed, both-true, passed}
 use Rattle.format.proofs.Open.{opened-ok}
 
@@ -258,35 +259,51 @@ opened-look-up known bytes c id o =
     let k = opened-ok known bytes c o in
     rw (o, k .rules, k .lengths)
 
--- ---- edition 1: its codec is lawful
+-- ---- the calls: the editions that there are have lawful codecs, and readers take all of them
 
-module _ (p : ℕ) (ids : List ℕ) (vs : List ℤ) (ok : Valid p ids vs) where
-  pub written-1 : (room : ℕ) → length (column plain p ids vs) ≤ room → write p ids vs room ≡ done (column plain p ids vs)
-  written-1 = written plain (lawful plain) p ids vs ok
+-- the writer that is told an edition's number is that edition's
+pub told : (ed : Edition) (p : ℕ) (ids : List ℕ) (vs : List ℤ) (room : ℕ) → write (numberOf ed) p ids vs room ≡ writeAs ed p ids vs room
+unfolding write writeAs andThen given need
+told ed p ids vs room =
+    true-or (eqb (length ids) (length vs)) (λ e. rw (e, knows-all ed)) (λ e. rw e)
 
-  pub no-room-1 : (room : ℕ) → room < length (column plain p ids vs) → write p ids vs room ≡ refused ROOM (length (column plain p ids vs))
-  no-room-1 = no-room plain (lawful plain) p ids vs ok
+-- any other number is refused with EDITION, after LENGTHS and before all else
+pub told-other : (k p : ℕ) (ids : List ℕ) (vs : List ℤ) (room : ℕ) → length ids ≡ length vs → editionIn editions k ≡ none
+    → write k p ids vs room ≡ refused EDITION 0
+unfolding write andThen given need
+told-other k p ids vs room e n = rw (eq-eqb (length ids) (length vs) e, n)
 
-  pub checked-1 : check editions (column plain p ids vs) ≡ done (length ids)
-  checked-1 = checked plain (lawful plain) p ids vs ok editions (knows-all plain)
+pub told-lengths : (k p : ℕ) (ids : List ℕ) (vs : List ℤ) (room : ℕ) → (length ids ≡ length vs → ⊥) → write k p ids vs room ≡ refused LENGTHS 0
+unfolding write need
+told-lengths k p ids vs room e = rw (ne-eqb (length ids) (length vs) e)
 
-  pub read-back-1 : (idRoom valueRoom : ℕ) → length ids ≤ idRoom → length ids ≤ valueRoom
-      → reading editions (column plain p ids vs) idRoom valueRoom ≡ done (record { ids = ids; values = vs })
-  read-back-1 = read-back plain (lawful plain) p ids vs ok editions (knows-all plain)
+module _ (ed : Edition) (p : ℕ) (ids : List ℕ) (vs : List ℤ) (ok : Valid p ids vs) where
+  pub written-told : (room : ℕ) → length (column ed p ids vs) ≤ room → write (numberOf ed) p ids vs room ≡ done (column ed p ids vs)
+  written-told room h = told ed p ids vs room ∙ written ed (lawful ed) p ids vs ok room h
 
-pub accepts-columns-1 : (bytes : List ℕ) (n : ℕ) → check editions bytes ≡ done n → ColumnOf editions bytes n
-accepts-columns-1 = accepts-columns editions (lawful-reader editions)
+  pub no-room-told : (room : ℕ) → room < length (column ed p ids vs) → write (numberOf ed) p ids vs room ≡ refused ROOM (length (column ed p ids vs))
+  no-room-told room h = told ed p ids vs room ∙ no-room ed (lawful ed) p ids vs ok room h
 
-pub columns-accepted-1 : (bytes : List ℕ) (n : ℕ) → ColumnOf editions bytes n → check editions bytes ≡ done n
-columns-accepted-1 = columns-accepted editions (lawful-reader editions)
+  pub checked-all : check editions (column ed p ids vs) ≡ done (length ids)
+  checked-all = checked ed (lawful ed) p ids vs ok editions (knows-all ed)
 
-pub reads-columns-1 : (bytes : List ℕ) (idRoom valueRoom : ℕ) (q : Pairs) → reading editions bytes idRoom valueRoom ≡ done q
+  pub read-back-all : (idRoom valueRoom : ℕ) → length ids ≤ idRoom → length ids ≤ valueRoom
+      → reading editions (column ed p ids vs) idRoom valueRoom ≡ done (record { ids = ids; values = vs })
+  read-back-all = read-back ed (lawful ed) p ids vs ok editions (knows-all ed)
+
+pub accepts-columns-all : (bytes : List ℕ) (n : ℕ) → check editions bytes ≡ done n → ColumnOf editions bytes n
+accepts-columns-all = accepts-columns editions (lawful-reader editions)
+
+pub columns-accepted-all : (bytes : List ℕ) (n : ℕ) → ColumnOf editions bytes n → check editions bytes ≡ done n
+columns-accepted-all = columns-accepted editions (lawful-reader editions)
+
+pub reads-columns-all : (bytes : List ℕ) (idRoom valueRoom : ℕ) (q : Pairs) → reading editions bytes idRoom valueRoom ≡ done q
     → ReadFrom editions bytes idRoom valueRoom q
-reads-columns-1 = reads-columns editions (lawful-reader editions)
+reads-columns-all = reads-columns editions (lawful-reader editions)
 
-pub one-list-1 : (p p′ : ℕ) (ids ids′ : List ℕ) (vs vs′ : List ℤ) → Valid p ids vs → Valid p′ ids′ vs′
-    → column plain p ids vs ≡ column plain p′ ids′ vs′ → SameList plain plain p p′ ids ids′ vs vs′
-one-list-1 = one-list editions (lawful-reader editions) plain plain (knows-all plain) (knows-all plain)
+pub one-list-all : (ed ed′ : Edition) (p p′ : ℕ) (ids ids′ : List ℕ) (vs vs′ : List ℤ) → Valid p ids vs → Valid p′ ids′ vs′
+    → column ed p ids vs ≡ column ed′ p′ ids′ vs′ → SameList ed ed′ p p′ ids ids′ vs vs′
+one-list-all ed ed′ = one-list editions (lawful-reader editions) ed ed′ (knows-all ed) (knows-all ed′)
 
-pub checked-answers-1 : (bytes : List ℕ) (n : ℕ) → check editions bytes ≡ done n → Holds editions bytes
-checked-answers-1 = checked-answers editions (lawful-reader editions)
+pub checked-answers-all : (bytes : List ℕ) (n : ℕ) → check editions bytes ≡ done n → Holds editions bytes
+checked-answers-all = checked-answers editions (lawful-reader editions)

@@ -1,15 +1,23 @@
--- The editions: their numbers, edition 1 in document 01's words, and that the codec of each is lawful. Assumes nothing.
-use Rattle.format.specs.Kit.{_≡_, refl, _∙_, false, _&&_, List, [], _∷_, some, ℕ, _^_, _<_, arith, leb, eqb, lit<, ℤ, le-leb, lt-leb, eqb-true}
+-- The editions: their numbers, edition 1 in document 01's words, edition 2 in document 02's, and that the codec of each is lawful.
+-- Assumes nothing.
+use Rattle.format.specs.Kit.{_≡_, refl, false, _&&_, List, [], _∷_, some, ℕ, _/_, _^_, _<_, div-le-self, lt-of-le-of-lt, arith, leb, eqb, lit<, ℤ}
+use Rattle.format.specs.Kit.{le-leb, leb-true, eqb-true}
 use Rattle.format.specs.Limits.{maxWidth}
 use Rattle.format.specs.HeaderNumbers.{zigzag, unzigzag}
-use Rattle.format.specs.Bits.{packedBytes, packed, fetched}
-use Rattle.format.specs.Values.{smallest, divisor, width, stored, valueAt}
+use Rattle.format.specs.Bits.{packedBytes, packed, fetched, bitAt, bitOf}
+use Rattle.format.specs.BitsLow.{packedLow, fetchedLow, bitLowAt, bitLow}
+use Rattle.format.specs.Values.{smallest, spread, divisor, bitLength, width, stored, valueAt}
+use Rattle.format.specs.Pairs.{Each, Fits}
 use Rattle.format.specs.Codec.{Fields, signed64, scaled}
-use Rattle.format.specs.Editions.{Edition, plain, numberOf, editions, editionIn, Knows, highFirst, codec}
-use Rattle.format.proofs.Bits.{length-packed, fetched-packed}
+use Rattle.format.specs.Editions.{Edition, plain, lucene, numberOf, editions, editionIn, Knows, highFirst, luceneWidths, lowFirst, codec}
+use Rattle.format.proofs.Orders.{packedBy, fetchedBy}
+use Rattle.format.proofs.Bits.{highOrder, high-orderly}
+use Rattle.format.proofs.BitsLow.{lowOrder, low-orderly}
+use Rattle.format.proofs.Widths.{LeastOf, lucene-least, lucene-narrow}
 use Rattle.format.proofs.Values.{bit-length, bit-length-le}
+use Rattle.format.proofs.Bounds.{spread-lt}
 use Rattle.format.proofs.Lawful.{Lawful, LawfulReader}
-use Rattle.format.proofs.Scaled.{Sound, scaled-lawful}
+use Rattle.format.proofs.Scaled.{Sound, scaled-lawful, scaled-wide}
 use Rattle.format.proofs.Cases.{true-or}
 
 -- ---- numbers
@@ -17,11 +25,13 @@ use Rattle.format.proofs.Cases.{true-or}
 pub number-small : (ed : Edition) → numberOf ed < 2 ^ 64
 unfolding numberOf
 number-small plain = lit< tt
+number-small lucene = lit< tt
 
 -- all editions are known
 pub knows-all : (ed : Edition) → Knows editions ed
 unfolding numberOf editions editionIn
 knows-all plain = refl
+knows-all lucene = refl
 
 -- what is found by its number has it
 pub found-number : (known : List Edition) (k : ℕ) (ed : Edition) → editionIn known k ≡ some ed → k ≡ numberOf ed
@@ -53,20 +63,59 @@ pub plain-value : (n : ℕ) (f : Fields) (s : List ℕ) (i : ℕ) → codec plai
 unfolding codec scaled highFirst
 plain-value n f s i = refl
 
--- no edition takes a width above its limit
-pub wide : (ed : Edition) (n : ℕ) (f : Fields) (v : ℕ) → maxWidth < f .width → codec ed .fieldsOk n f v ≡ false
-wide plain n f v h = plain-rules n f v ∙ rw (lt-leb (f .width) maxWidth h)
-
 -- its packing is sound
-high-first-sound : Sound highFirst
-unfolding highFirst
-high-first-sound = search (arith, bit-length, bit-length-le, le-leb, length-packed, fetched-packed)
+unfoldable pub high-first-sound : Sound highFirst
+unfolding highFirst highOrder packed fetched packedBy fetchedBy bitAt bitOf
+high-first-sound =
+    record {
+      enough = λ q h. bit-length q;
+      allowed = λ q h. le-leb (bitLength q) maxWidth (bit-length-le q maxWidth h);
+      narrow = λ w. leb-true w maxWidth;
+      order = highOrder;
+      orderly = high-orderly;
+      packs = λ w xs. refl;
+      fetches = λ s w i. refl;
+    }
+
+-- ---- edition 2
+
+-- it differs from edition 1 in the width, which is the least of Lucene 9's that suffices, and in the bits' order: g, the smallest value
+-- and the stored numbers are the same
+pub lucene-width : (vs : List ℤ) → Each Fits vs → LeastOf luceneWidths (spread vs / divisor vs) (codec lucene .fields vs .width)
+unfolding codec scaled lowFirst
+lucene-width vs t = lucene-least (spread vs / divisor vs) (lt-of-le-of-lt (div-le-self (spread vs) (divisor vs)) (spread-lt vs t))
+
+pub lucene-fields : (vs : List ℤ) → let w = codec lucene .fields vs .width in
+    (codec lucene .fields vs ≡ record { width = w; smallest = zigzag (smallest vs); divisor = divisor vs })
+    × (codec lucene .section vs ≡ packedLow w (stored vs))
+unfolding codec scaled lowFirst
+lucene-fields vs = (refl, refl)
+
+unfoldable pub low-first-sound : Sound lowFirst
+unfolding lowFirst lowOrder packedLow fetchedLow packedBy fetchedBy bitLowAt bitLow
+low-first-sound =
+    record {
+      enough = λ q h. lucene-least q h .suffices;
+      allowed = λ q h. lucene-least q h .listed;
+      narrow = lucene-narrow;
+      order = lowOrder;
+      orderly = low-orderly;
+      packs = λ w xs. refl;
+      fetches = λ s w i. refl;
+    }
 
 -- ---- every codec is lawful, and so is every reader
 
 pub lawful : (ed : Edition) → Lawful (codec ed)
 unfolding codec
 lawful plain = scaled-lawful highFirst high-first-sound
+lawful lucene = scaled-lawful lowFirst low-first-sound
 
 pub lawful-reader : (known : List Edition) → LawfulReader known
 lawful-reader known ed k = lawful ed
+
+-- no edition takes a width above its limit
+pub wide : (ed : Edition) (n : ℕ) (f : Fields) (v : ℕ) → maxWidth < f .width → codec ed .fieldsOk n f v ≡ false
+unfolding codec
+wide plain n f v h = scaled-wide highFirst high-first-sound n f v h
+wide lucene n f v h = scaled-wide lowFirst low-first-sound n f v h

@@ -1,5 +1,6 @@
 -- What is proved about the definitions: Demands.antt has the demands, AllCases.antt the computed cases, Meaning.antt and MeaningValues.antt
--- the documents' words behind the definitions, Lawful.antt what a codec owes and Editions.antt that each keeps it; the others lead there.
+-- the documents' words behind the definitions, Lawful.antt what a codec owes and Editions.antt that each keeps it, Alone.antt what a
+-- reader of edition 1 alone says to edition 2; the others lead there.
 pub mod AllCases
 pub mod Computing
 pub mod Starred
@@ -12,6 +13,7 @@ pub mod PinsLayered
 pub mod PinsSets
 pub mod PinsTaken
 pub mod PinsPage
+pub mod PinsLucene
 pub mod Demands
 pub mod Meaning
 pub mod MeaningValues
@@ -21,7 +23,10 @@ pub mod Rules
 pub mod Stores
 pub mod Digits
 pub mod Runs
+pub mod Orders
 pub mod Bits
+pub mod BitsLow
+pub mod Widths
 pub mod Taken
 pub mod Section
 pub mod Header
@@ -63,3 +68,4 @@ pub mod Sequences
 pub mod Paged
 pub mod Retired
 pub mod Layered
+pub mod Alone

@@ -40,26 +40,26 @@ noPairs l j given = headed (1 ∷ 0 ∷ 9 ∷ l ∷ j ∷ 0 ∷ 0 ∷ 1 ∷ 0 �
 
 pub record WriterCases : Type 0 where
   -- 1: ids and values differ in count; it comes before 2
-  pub more-values : write 9 [] (pos 1 ∷ []) 100 ≡ refused LENGTHS 0
-  pub more-ids : write 9 (0 ∷ []) [] 100 ≡ refused LENGTHS 0
-  pub lengths-before-power : write 6 [] (pos 1 ∷ []) 100 ≡ refused LENGTHS 0
+  pub more-values : write 1 9 [] (pos 1 ∷ []) 100 ≡ refused LENGTHS 0
+  pub more-ids : write 1 9 (0 ∷ []) [] 100 ≡ refused LENGTHS 0
+  pub lengths-before-power : write 1 6 [] (pos 1 ∷ []) 100 ≡ refused LENGTHS 0
   -- 2: p 6 and 16, and the sides that are taken; it comes before 3
-  pub power-1 : write 1 [] [] 100 ≡ refused POWER 0
-  pub power-6 : write 6 [] [] 100 ≡ refused POWER 0
-  pub power-16 : write 16 [] [] 100 ≡ refused POWER 0
-  pub power-0 : writeReply (write 0 [] [] 100) ≡ done 23
-  pub power-7 : writeReply (write 7 [] [] 100) ≡ done 23
-  pub power-15 : writeReply (write 15 [] [] 100) ≡ done 23
-  pub power-before-order : write 6 (4 ∷ 4 ∷ []) (pos 0 ∷ pos 0 ∷ []) 100 ≡ refused POWER 0
+  pub power-1 : write 1 1 [] [] 100 ≡ refused POWER 0
+  pub power-6 : write 1 6 [] [] 100 ≡ refused POWER 0
+  pub power-16 : write 1 16 [] [] 100 ≡ refused POWER 0
+  pub power-0 : writeReply (write 1 0 [] [] 100) ≡ done 23
+  pub power-7 : writeReply (write 1 7 [] [] 100) ≡ done 23
+  pub power-15 : writeReply (write 1 15 [] [] 100) ≡ done 23
+  pub power-before-order : write 1 6 (4 ∷ 4 ∷ []) (pos 0 ∷ pos 0 ∷ []) 100 ≡ refused POWER 0
   -- 3: the first id that is not above the one before; over the whole list before 4
-  pub falls : write 9 (3 ∷ 5 ∷ 4 ∷ 4 ∷ []) (pos 0 ∷ pos 0 ∷ pos 0 ∷ pos 0 ∷ []) 100 ≡ refused ORDER 2
-  pub order-before-range : write 9 (2147352576 ∷ 5 ∷ []) (pos 0 ∷ pos 0 ∷ []) 100 ≡ refused ORDER 1
+  pub falls : write 1 9 (3 ∷ 5 ∷ 4 ∷ 4 ∷ []) (pos 0 ∷ pos 0 ∷ pos 0 ∷ pos 0 ∷ []) 100 ≡ refused ORDER 2
+  pub order-before-range : write 1 9 (2147352576 ∷ 5 ∷ []) (pos 0 ∷ pos 0 ∷ []) 100 ≡ refused ORDER 1
   -- 4: the first id above its limit; before 6
-  pub too-large : write 9 (5 ∷ 2147352576 ∷ 2147352577 ∷ []) (pos 0 ∷ pos 0 ∷ pos 0 ∷ []) 0 ≡ refused RANGE 1
+  pub too-large : write 1 9 (5 ∷ 2147352576 ∷ 2147352577 ∷ []) (pos 0 ∷ pos 0 ∷ pos 0 ∷ []) 0 ≡ refused RANGE 1
   -- 6: one byte short, and room for the column
-  pub short-room : write 9 (0 ∷ 2 ∷ 7 ∷ []) (pos 150 ∷ pos 140 ∷ pos 135 ∷ []) 26 ≡ refused ROOM 27
-  pub exact-room : write 9 (0 ∷ 2 ∷ 7 ∷ []) (pos 150 ∷ pos 140 ∷ pos 135 ∷ []) 27 ≡ done (three 9)
-  pub more-room : write 9 (0 ∷ 2 ∷ 7 ∷ []) (pos 150 ∷ pos 140 ∷ pos 135 ∷ []) 28 ≡ done (three 9)
+  pub short-room : write 1 9 (0 ∷ 2 ∷ 7 ∷ []) (pos 150 ∷ pos 140 ∷ pos 135 ∷ []) 26 ≡ refused ROOM 27
+  pub exact-room : write 1 9 (0 ∷ 2 ∷ 7 ∷ []) (pos 150 ∷ pos 140 ∷ pos 135 ∷ []) 27 ≡ done (three 9)
+  pub more-room : write 1 9 (0 ∷ 2 ∷ 7 ∷ []) (pos 150 ∷ pos 140 ∷ pos 135 ∷ []) 28 ≡ done (three 9)
   -- block of 4095 ids: 8194 bytes; 4096 at p 9: 8452, at p 0: 8196; 65536: 4
   pub sparse-block : blockBytes 9 4095 ≡ 8194
   pub dense-block : blockBytes 9 4096 ≡ 8452
@@ -130,7 +130,7 @@ pub record HeaderCases : Type 0 where
   -- 7 and 8 go by the first bad header number
   pub number-then-short : check editions (0x01 ∷ 0x83 ∷ 0x00 ∷ 0x80 ∷ []) ≡ refused NUMBER 2
   -- 9: as soon as the first number is read, before a later 7 or 8
-  pub edition-two : check editions (0x02 ∷ []) ≡ refused EDITION 0
+  pub edition-nine : check editions (0x09 ∷ []) ≡ refused EDITION 0
   pub edition-zero : check editions (0x00 ∷ 0x80 ∷ 0x00 ∷ []) ≡ refused EDITION 0
   pub edition-largest : check editions (replicate 9 0xFF ++ (0x01 ∷ [])) ≡ refused EDITION 0
   -- 10: only after all nine numbers; p is 6 here, and the last number is cut, or not minimal

@@ -53,7 +53,7 @@ pub record PlaceCases : Type 0 where
   pub first-bad : check editions (withBytes 3 (0x81 ∷ 0x00 ∷ 0x80 ∷ 0x00 ∷ [])) ≡ refused NUMBER 5
   pub bad-then-end : check editions (cutAt 3 (0x81 ∷ 0x00 ∷ [])) ≡ refused NUMBER 5
   -- EDITION comes before a later number's fault
-  pub edition-first : check editions (0x02 ∷ 0x81 ∷ 0x00 ∷ []) ≡ refused EDITION 0
+  pub edition-first : check editions (0x09 ∷ 0x81 ∷ 0x00 ∷ []) ≡ refused EDITION 0
   -- the reading, before BUFFER, and the look-up, after ID
   pub read-cut : reading editions (cutAt 3 (0xF0 ∷ 0xA2 ∷ [])) 0 0 ≡ refused SHORT 6
   pub read-padded : reading editions (withBytes 3 (0xF0 ∷ 0x80 ∷ 0x00 ∷ [])) 0 0 ≡ refused NUMBER 6

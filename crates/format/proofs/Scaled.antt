@@ -1,24 +1,68 @@
 -- A codec with one smallest value, one divisor and one width is lawful for every sound packing. Assumes nothing.
-use Rattle.format.specs.Kit.{_≡_, refl, sym, ap, _∙_, subst, true, List, [], _∷_, some, ℕ, zero, suc, _/_, _^_, _<_, _≤_, div-le-self}
-use Rattle.format.specs.Kit.{lt-of-le-of-lt, mul-le-mul, arith, ℤ, pos, length, getD, List·getD-map, eq-eqb, le-leb}
-use Rattle.format.specs.HeaderNumbers.{unzigzag}
+use Rattle.format.specs.Kit.{_≡_, refl, sym, ap, _∙_, subst, true, false, _&&_, leb, eqb, List, [], _∷_, some, ℕ, zero, suc, _/_, _^_, _<_, _≤_}
+use Rattle.format.specs.Kit.{div-le-self, lt-of-le-of-lt, mul-le-mul, arith, ℤ, pos, length, getD, List·getD-map, eq-eqb, le-leb}
+use Rattle.format.specs.Limits.{maxWidth}
+use Rattle.format.specs.HeaderNumbers.{zigzag, unzigzag}
 use Rattle.format.specs.Bits.{packedBytes}
 use Rattle.format.specs.Values.{fits64, smallest, over, spread, divisor, stored, valueAt}
 use Rattle.format.specs.Pairs.{Each, Fits}
-use Rattle.format.specs.Codec.{Packing, signed64, scaled}
+use Rattle.format.specs.Codec.{Fields, Packing, signed64, widthBy, scaled}
 use Rattle.format.proofs.Values.{each-at, values-back, spread-each, length-stored, div-le-div}
 use Rattle.format.proofs.Fits.{unzigzag-zigzag}
 use Rattle.format.proofs.Bounds.{spread-lt, zig-lt, divisor-is}
+use Rattle.format.proofs.Orders.{Order, Orderly, packedBy, fetchedBy, length-packed, fetched-packed}
 use Rattle.format.proofs.Lawful.{Storable, SmallFields, Lawful}
 use Rattle.format.proofs.Cases.{true-or}
 
--- what a packing owes: widths for all numbers of 64 bits, n times w bits rounded up to bytes, and each number back
+-- what a packing owes: widths for all numbers of 64 bits, none above 64, and bits in some order
 pub record Sound (k : Packing) : Type 0 where
   pub enough : (q : ℕ) → q < 2 ^ 64 → q < 2 ^ k .widthFor q
-  pub narrow : (q : ℕ) → q < 2 ^ 64 → k .widthFor q ≤ 64
   pub allowed : (q : ℕ) → q < 2 ^ 64 → k .widthOk (k .widthFor q) ≡ true
+  pub narrow : (w : ℕ) → k .widthOk w ≡ true → w ≤ maxWidth
+  pub order : Order
+  pub orderly : Orderly order
+  pub packs : (w : ℕ) (xs : List ℕ) → k .pack w xs ≡ packedBy order w xs
+  pub fetches : (s : List ℕ) (w i : ℕ) → k .fetch s w i ≡ fetchedBy order s w i
+
+-- n times w bits rounded up to bytes, and each number back
+module _ {k : Packing} (sound : Sound k) where
   pub size : (w : ℕ) (xs : List ℕ) → length (k .pack w xs) ≡ packedBytes (length xs) w
-  pub fetches : (w : ℕ) (xs : List ℕ) (i : ℕ) → i < length xs → getD xs i 0 < 2 ^ w → k .fetch (k .pack w xs) w i ≡ getD xs i 0
+  size w xs = ap length (sound .packs w xs) ∙ length-packed (sound .order) w xs
+
+  number-back : (w : ℕ) (xs : List ℕ) (i : ℕ) → i < length xs → getD xs i 0 < 2 ^ w → k .fetch (k .pack w xs) w i ≡ getD xs i 0
+  number-back w xs i h x = rw (sound .packs w xs, sound .fetches) (fetched-packed (sound .orderly) w xs i h x)
+
+  -- the width of a spread of 64 bits
+  pub width-narrow : (q : ℕ) → q < 2 ^ 64 → k .widthFor q ≤ maxWidth
+  width-narrow q h = sound .narrow (k .widthFor q) (sound .allowed q h)
+
+-- ---- the codec's words
+
+pub scaled-fields : (k : Packing) (vs : List ℤ)
+    → scaled k .fields vs ≡ record { width = widthBy k vs; smallest = zigzag (smallest vs); divisor = divisor vs }
+unfolding scaled
+scaled-fields k vs = refl
+
+pub scaled-section : (k : Packing) (vs : List ℤ) → scaled k .section vs ≡ k .pack (widthBy k vs) (stored vs)
+unfolding scaled
+scaled-section k vs = refl
+
+pub scaled-rules : (k : Packing) (n : ℕ) (f : Fields) (v : ℕ)
+    → scaled k .fieldsOk n f v ≡ (k .widthOk (f .width) && leb 1 (f .divisor) && eqb v (packedBytes n (f .width)))
+unfolding scaled
+scaled-rules k n f v = refl
+
+pub scaled-value : (k : Packing) (n : ℕ) (f : Fields) (s : List ℕ) (i : ℕ)
+    → scaled k .value n f s i ≡ signed64 (valueAt (unzigzag (f .smallest)) (f .divisor) (k .fetch s (f .width) i))
+unfolding scaled
+scaled-value k n f s i = refl
+
+-- no width above its limit is taken
+pub scaled-wide : (k : Packing) → Sound k → (n : ℕ) (f : Fields) (v : ℕ) → maxWidth < f .width → scaled k .fieldsOk n f v ≡ false
+scaled-wide k sound n f v h =
+    true-or (k .widthOk (f .width))
+    (λ e. absurd (omega (arith, sound .narrow (f .width) e)))
+    (λ e. scaled-rules k n f v ∙ rw e)
 
 -- ---- a signed 64-bit number
 
@@ -66,15 +110,15 @@ module _ (k : Packing) (sound : Sound k) (vs : List ℤ) (ok : Storable vs) wher
   q-lt = lt-of-le-of-lt (div-le-self (spread vs) (divisor vs)) (spread-lt vs fit)
 
   size-is : length (k .pack w (stored vs)) ≡ packedBytes (length vs) w
-  size-is = sound .size w (stored vs) ∙ ap (λ (n : ℕ). packedBytes n w) (length-stored vs)
+  size-is = size sound w (stored vs) ∙ ap (λ (n : ℕ). packedBytes n w) (length-stored vs)
 
   numbers : SmallFields (scaled k .fields vs)
   unfolding scaled q
-  numbers = (omega (arith, sound .narrow q q-lt), (zig-lt vs fit, (divisor-is vs fit .1, tt)))
+  numbers = (omega (arith, width-narrow sound q q-lt), (zig-lt vs fit, (divisor-is vs fit .1, tt)))
 
   bytes : length (scaled k .section vs) < 2 ^ 64
   unfolding scaled q w
-  bytes = omega (arith, mul-le-mul (ok .few) (sound .narrow q q-lt), q-lt, size-is)
+  bytes = omega (arith, mul-le-mul (ok .few) (width-narrow sound q q-lt), q-lt, size-is)
 
   keeps : scaled k .fieldsOk (length vs) (scaled k .fields vs) (length (scaled k .section vs)) ≡ true
   unfolding scaled q w
@@ -86,7 +130,7 @@ module _ (k : Packing) (sound : Sound k) (vs : List ℤ) (ok : Storable vs) wher
       let j : i < length (stored vs) = omega (arith, length-stored vs) in
       let at : ℕ → ℤ = valueAt (smallest vs) (divisor vs) in
       let x : getD (stored vs) i 0 < 2 ^ w = lt-of-le-of-lt (stored-le vs i (divisor-is vs fit .0) h) (sound .enough q q-lt) in
-      rw (unzigzag-zigzag (smallest vs), sound .fetches w (stored vs) i j x)
+      rw (unzigzag-zigzag (smallest vs), number-back sound w (stored vs) i j x)
       (ap signed64
       (sym (List·getD-map at (stored vs) i 0)
       ∙ ap (λ (l : List ℤ). getD l i (at 0)) (values-back vs)

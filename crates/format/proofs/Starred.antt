@@ -49,11 +49,11 @@ pub record Starred : Type 0 where
   -- 80 alone: SHORT, of 1 byte
   pub cut : check editions (0x80 ∷ []) ≡ refused SHORT 1
   -- ids 4, 4: ORDER, index 1
-  pub order : (room : ℕ) → write 9 (4 ∷ 4 ∷ []) (pos 0 ∷ pos 0 ∷ []) room ≡ refused ORDER 1
+  pub order : (room : ℕ) → write 1 9 (4 ∷ 4 ∷ []) (pos 0 ∷ pos 0 ∷ []) room ≡ refused ORDER 1
   -- id 2147352576 alone: RANGE, index 0
-  pub range : (room : ℕ) → write 9 (2147352576 ∷ []) (pos 0 ∷ []) room ≡ refused RANGE 0
+  pub range : (room : ℕ) → write 1 9 (2147352576 ∷ []) (pos 0 ∷ []) room ≡ refused RANGE 0
   -- 2147352575 is taken: its column has 32767 jump entries
-  pub taken : write 9 (2147352575 ∷ []) (pos 0 ∷ []) 262161 ≡ done (column plain 9 (2147352575 ∷ []) (pos 0 ∷ []))
+  pub taken : write 1 9 (2147352575 ∷ []) (pos 0 ∷ []) 262161 ≡ done (column plain 9 (2147352575 ∷ []) (pos 0 ∷ []))
 
 pub starred : Starred
 unfolding computing

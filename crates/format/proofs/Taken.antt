@@ -17,7 +17,7 @@ unfolding fetchedBytes
 taken-is w i h = ap (λ b. cond b 0 ((i * w + w - 1) / 8 - i * w / 8 + 1)) (ne-eqb w 0 (λ e. omega arith))
 
 -- those of its bits, and of the bits that come before them in the first
-taken-bits : (w i : ℕ) → 0 < w → fetchedBytes w i ≡ bitBytes (i * w % 8 + w)
+pub taken-bits : (w i : ℕ) → 0 < w → fetchedBytes w i ≡ bitBytes (i * w % 8 + w)
 taken-bits w i h = taken-is w i h ∙ omega arith
 
 pub at-most-nine : (w i : ℕ) → w ≤ 64 → fetchedBytes w i ≤ 9

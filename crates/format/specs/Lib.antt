@@ -1,10 +1,11 @@
--- Every definition of document 01, a file for each of its parts, and of what document 02 adds.
+-- Every definition of documents 01 and 02, a file for each of their parts, and of what document 02 adds.
 pub mod Kit
 pub mod Limits
 pub mod Refusals
 pub mod Bytes
 pub mod HeaderNumbers
 pub mod Bits
+pub mod BitsLow
 pub mod Ids
 pub mod IdsRead
 pub mod Values

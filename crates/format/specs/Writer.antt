@@ -1,9 +1,9 @@
--- The writer: refusals 1 to 4 and 6 in order, each over the whole input before the next (document 01, "Refusal numbers"; document 02, [7],
--- took 5 out). Assumes nothing.
+-- The writer: refusals 1, 9, 2 to 4 and 6 in order, each over the whole input before the next (document 01, "Refusal numbers"; document 02,
+-- [6], put 9 in, and [7] took 5 out). Assumes nothing.
 use Rattle.format.specs.Kit.{ℕ, suc, cond, List, [], _∷_, _++_, Option, none, some, length, drop, leb, ltb, eqb, ℤ}
 use Rattle.format.specs.Limits.{maxId, powerOk}
-use Rattle.format.specs.Refusals.{Outcome, done, refused, need, needNone, LENGTHS, POWER, ORDER, RANGE, ROOM}
-use Rattle.format.specs.Editions.{Edition, plain}
+use Rattle.format.specs.Refusals.{Outcome, done, refused, andThen, need, given, needNone, LENGTHS, POWER, ORDER, RANGE, ROOM, EDITION}
+use Rattle.format.specs.Editions.{Edition, editions, editionIn}
 use Rattle.format.specs.Column.{column}
 
 -- the first index, i and on, at which an id is not above the one before, a
@@ -31,9 +31,11 @@ writeAs ed p ids vs room =
     (need (leb (length out) room) ROOM (length out)
     (done out)))))
 
--- the call writes edition 1
-abbrev pub write : ℕ → List ℕ → List ℤ → ℕ → Outcome (List ℕ)
-write p ids vs room = writeAs plain p ids vs room
+-- the call is told the edition's number k; LENGTHS comes before it, and has nothing to say after it
+unfoldable pub write : ℕ → ℕ → List ℕ → List ℤ → ℕ → Outcome (List ℕ)
+write k p ids vs room =
+    need (eqb (length ids) (length vs)) LENGTHS 0
+    (andThen (given (editionIn editions k) EDITION 0) (λ ed. writeAs ed p ids vs room))
 
 -- ---- the reply and the output afterwards
 

@@ -15,9 +15,10 @@ pub struct Runs {
     pub high: Run,
 }
 
-// Values smallest + (x << shift): x is 0 for the first value, mask for the second, and any part of mask for the others.
+// Values smallest + (x << shift): x is 0 for the first value, `most` for the second, and any part of mask for the others.
 pub struct Values {
     pub smallest: u64,
+    pub most: u64,
     pub mask: u64,
     pub shift: u64,
 }
@@ -96,7 +97,7 @@ pub fn fill_ids(ids: &mut [u32], r: Runs) -> u64 {
 fn value_of(v: Values, i: u64, x: u64) -> u64 {
     let stored = match i {
         0 => 0,
-        1 => v.mask,
+        1 => v.most,
         _ => x & v.mask,
     };
     wrapping_add_u64(v.smallest, stored << (v.shift % 64))

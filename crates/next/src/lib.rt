@@ -160,8 +160,8 @@ fn steps_from(bytes: &[u8], column: Column, target: u32) -> Sum
     let section = &bytes[end..];
     let edition = head.edition;
     let fields = head.fields;
-    let Fetched::Value(value) = values::value_at(section, edition, head.count, fields, ordinal)
-    else {
+    let stored = values::stored_at(section, edition, head.count, fields, ordinal);
+    let Fetched::Value(value) = values::value_of(fields, stored) else {
         return no_more(2);
     };
     Sum {

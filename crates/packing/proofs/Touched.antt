@@ -16,7 +16,7 @@ or-low y j =
     ∙ split y j
 
 -- all bits but the last u, and the last v: those that are in both are the same
-or-ends : (n u v : ℕ) → u ≤ v → bitOr (n / 2 ^ u * 2 ^ u) (n % 2 ^ v) ≡ n
+pub or-ends : (n u v : ℕ) → u ≤ v → bitOr (n / 2 ^ u * 2 ^ u) (n % 2 ^ v) ≡ n
 or-ends n u v l =
     let j : ℕ = v - u in
     let y : ℕ = n / 2 ^ u in

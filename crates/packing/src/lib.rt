@@ -1,18 +1,13 @@
 // Numbers of w bits each, packed into bytes high bit first.
 ghost use mathlib.Core.Path.{_≡_};
+ghost use mathlib.Core.List.{List};
 ghost use Prim.Native.Nat.{ℕ, _+_, _-_, _*_, _/_, _%_, _^_, _≤_, _<_};
-ghost use lib.ListN.{length};
+ghost use lib.ListN.{length, getD};
 ghost use Rattle.format.specs.Limits.{maxCount, maxWidth};
-ghost use Rattle.format.specs.Bits.{bitAt, gather, bitBytes, fetched, fetchedBytes, packedBytes};
+ghost use Rattle.format.specs.Bits.{bitAt, gather, bitBytes, packedBytes};
 ghost use Rattle.packing.specs.Turned.{turned};
 ghost use Rattle.packing.specs.Ends.{EndsOf};
 ghost use Rattle.packing.specs.Stream.{Stored, Pushed, Finished};
-
-// A number that was fetched, and how many bytes were taken for it.
-pub struct Taken {
-    pub number: u64,
-    pub bytes: usize,
-}
 
 // Numbers that are written one after the other: at bytes are full, and have bits wait, as the number acc.
 pub struct Pending {
@@ -68,7 +63,7 @@ pub fn skip_of(i: usize, w: usize) -> usize
 }
 
 // The eight bytes of x in the other order.
-fn swapped(x: u64) -> u64
+pub fn swapped(x: u64) -> u64
     ensures { λ r. ⌜ r ≡ turned 8 x ⌝ }
 {
     x % 256 * 72057594037927936
@@ -106,14 +101,14 @@ pub fn window(s: &[u8], at: usize, skip: usize) -> u64
 }
 
 // The ends of a byte string: its first k bytes and its last k, each as a number low byte first.
-struct Ends {
-    front: u64,
-    back: u64,
-    k: usize,
+pub struct Ends {
+    pub front: u64,
+    pub back: u64,
+    pub k: usize,
 }
 
 // The ends of the bytes that w bits touch: all of them are in one or in both. The loads go by w, so that no branch hangs on the index.
-fn ends_of(s: &[u8], w: usize) -> Ends
+pub fn ends_of(s: &[u8], w: usize) -> Ends
     requires { ⌜ (0 < w) × (w ≤ 64) × (w ≤ 8 * length (now s)) × (8 * length (now s) ≤ w + 14) ⌝ }
     ensures { λ r. ⌜ EndsOf (now (s .entry)) r ⌝ }
 {
@@ -154,55 +149,15 @@ fn met(x: u64, y: u64, w: usize) -> u64
     (x >> (64 - w)) | (y & (u64::MAX >> (64 - w)))
 }
 
-// The number in the w bits of s after its first skip ones, where s has the bytes that they touch and no others. The first byte is trimmed
-// by skip bits, the last by those that are left over.
-fn number_in(s: &[u8], skip: usize, w: usize) -> u64
-    requires { ⌜ (skip < 8) × (0 < w) × (w ≤ 64) × (length (now s) ≡ bitBytes (skip + w)) ⌝ }
-    ensures { λ r. ⌜ r ≡ gather (bitAt (now (s .entry))) skip w ⌝ }
+// The number in the w bits after the first skip ones of the n bytes that they touch, by the ends of these. The first byte is trimmed by skip
+// bits, the last by those that are left over.
+pub fn number_of(e: Ends, n: usize, skip: usize, w: usize) -> u64
+    requires { ⌜ (skip < 8) × (0 < w) × (w ≤ 64) × (n ≡ bitBytes (skip + w)) × (1 ≤ e .k) × (e .k ≤ 8) × (e .k ≤ n) ⌝ }
+    ensures { λ r. ⌜ ((s : List ℕ) → ((k : ℕ) → getD s k 0 < 256) → length s ≡ n → EndsOf s e → r ≡ gather (bitAt s) skip w) ⌝ }
 {
-    let spare = 8 * s.len() - skip - w;
-    let e = ends_of(s, w);
     let x = swapped(e.front) << skip;
-    let y = swapped(e.back) >> (64 - 8 * e.k + spare);
+    let y = swapped(e.back) >> (64 + 8 * (n - e.k) - skip - w);
     met(x, y, w)
-}
-
-// The i-th number of w bits in s (document 02, [5]). Lent are the bytes that its bits touch, so no others can be read.
-pub fn fetch(s: &[u8], w: usize, i: usize) -> Taken
-    requires { ⌜ (w ≤ 64) × (i ≤ maxCount) × (i * w + w ≤ 8 * length (now s)) ⌝ }
-    ensures { λ r. ⌜ (r .number ≡ fetched (now (s .entry)) w i) × (r .bytes ≡ fetchedBytes w i) × (r .bytes ≤ 9) ⌝ }
-{
-    if w == 0 {
-        return Taken {
-            number: 0,
-            bytes: 0,
-        };
-    }
-    let bit = i * w;
-    let start = bit >> 3;
-    let end = (bit + w + 7) >> 3;
-    let touched = &s[start..end];
-    Taken {
-        number: number_in(touched, bit & 7, w),
-        bytes: touched.len(),
-    }
-}
-
-// Number i of the n of w bits in s, which starts after the first skip bits of byte at: from eight bytes at once while 64 are left.
-pub fn next_of(s: &[u8], w: usize, i: usize, n: usize, at: usize, skip: usize) -> u64
-    requires { ⌜ (w ≤ 64) × (i < n) × (n * w ≤ 8 * length (now s)) × (at * 8 + skip ≡ i * w) × (skip < 8) ⌝ }
-    ensures { λ r. ⌜ r ≡ fetched (now (s .entry)) w i ⌝ }
-{
-    if w == 0 {
-        return 0;
-    }
-    if 64 <= n - i {
-        if skip + w <= 64 {
-            return middle(eight_at(s, at), skip, w);
-        }
-    }
-    let end = at + ((skip + w + 7) >> 3);
-    number_in(&s[at..end], skip, w)
 }
 
 // The byte of v above its k low bits.
@@ -222,7 +177,7 @@ fn filled(acc: u64, have: usize, next: u64) -> u64
 }
 
 // Writes the first n bytes of v, the highest first.
-fn store(dst: &mut [u8], at: usize, n: usize, v: u64)
+pub fn store(dst: &mut [u8], at: usize, n: usize, v: u64)
     requires { ⌜ (n ≤ 8) × (at + n ≤ length (now dst)) ⌝ }
     ensures { λ _. ⌜ Stored at n v (now (dst .entry)) (now (dst .exit)) ⌝ }
 {
@@ -236,7 +191,7 @@ fn store(dst: &mut [u8], at: usize, n: usize, v: u64)
 // The number x of w bits after those written before. Eight bytes are written at once, when there are as many.
 pub fn push(dst: &mut [u8], p: Pending, w: usize, x: u64) -> Pending
     requires { ⌜ (w ≤ 64) × (x < 2 ^ w) × (p .have < 64) × (p .acc < 2 ^ p .have) × (p .at * 8 + p .have + w ≤ 8 * length (now dst)) ⌝ }
-    ensures { λ r. ⌜ Pushed w x p r (now (dst .entry)) (now (dst .exit)) ⌝ }
+    ensures { λ r. ⌜ Pushed gather w x p r (now (dst .entry)) (now (dst .exit)) ⌝ }
 {
     let at = p.at;
     let have = p.have;
@@ -261,7 +216,7 @@ pub fn push(dst: &mut [u8], p: Pending, w: usize, x: u64) -> Pending
 // Writes the bits that still wait; the spare bits of the last byte are 0.
 pub fn finish(dst: &mut [u8], p: Pending)
     requires { ⌜ (p .have < 64) × (p .acc < 2 ^ p .have) × (p .at * 8 + p .have ≤ 8 * length (now dst)) ⌝ }
-    ensures { λ _. ⌜ Finished p (now (dst .entry)) (now (dst .exit)) ⌝ }
+    ensures { λ _. ⌜ Finished gather p (now (dst .entry)) (now (dst .exit)) ⌝ }
 {
     let at = p.at;
     let have = p.have;

@@ -68,8 +68,8 @@ fn valued(bytes: &[u8], column: Column, ordinal: u64, words: u64) -> Held
     let section = &bytes[end..];
     let edition = head.edition;
     let fields = head.fields;
-    let Fetched::Value(value) = values::value_at(section, edition, head.count, fields, ordinal)
-    else {
+    let stored = values::stored_at(section, edition, head.count, fields, ordinal);
+    let Fetched::Value(value) = values::value_of(fields, stored) else {
         return refused(15);
     };
     Held {

@@ -2,6 +2,7 @@
 use super::bytes::put;
 
 pub struct Fields {
+    pub edition: u64,
     pub count: u64,
     pub power: u64,
     pub id_bytes: u64,
@@ -24,7 +25,7 @@ fn put_number(out: &mut [u8], at: u64, x: u64) -> u64 {
 
 // Puts the header, and answers with the place after it.
 pub fn put_header(out: &mut [u8], f: Fields) -> u64 {
-    let at = put_number(out, 0, 1);
+    let at = put_number(out, 0, f.edition);
     let at = put_number(out, at, f.count);
     let at = put_number(out, at, f.power);
     let at = put_number(out, at, f.id_bytes);

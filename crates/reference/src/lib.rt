@@ -65,11 +65,14 @@ fn refused(number: u64, with: u64) -> Outcome {
     Outcome { number, with }
 }
 
-// Refusals 1 to 4.
-fn judged(ids: &[u32], values: &[u64], power: u64) -> Outcome {
+// Refusals 1, 9 and 2 to 4.
+fn judged(ids: &[u32], values: &[u64], edition: u64, power: u64) -> Outcome {
     let n = ids.len() as u64;
     if n != values.len() as u64 {
         return refused(1, 0);
+    }
+    if edition != 1 && edition != 2 {
+        return refused(9, 0);
     }
     if !power_ok(power) {
         return refused(2, 0);
@@ -110,11 +113,12 @@ fn block_bytes(ids: &[u32], power: u64) -> u64 {
     ids::put_section(&mut [0u8; 0], s, ids)
 }
 
-fn fields_of(ids: &[u32], values: &[u64], power: u64) -> header::Fields {
+fn fields_of(ids: &[u32], values: &[u64], edition: u64, power: u64) -> header::Fields {
     let n = ids.len() as u64;
-    let f = values::facts_of(values);
+    let f = values::facts_of(values, edition == 2);
     let jumps = ids::entries(ids::blocks(ids));
     header::Fields {
+        edition,
         count: n,
         power,
         id_bytes: plus(plus(block_bytes(ids, power), 6), jumps << 3),
@@ -136,18 +140,18 @@ fn put_column(out: &mut [u8], ids: &[u32], values: &[u64], f: header::Fields) {
         power: f.power,
     };
     ids::put_section(out, s, ids);
-    let facts = values::facts_of(values);
+    let facts = values::facts_of(values, f.edition == 2);
     values::put_values(out, end, values, facts, times(f.count, f.width));
 }
 
 // Writes the column to the front of out. No start needs a test: 32766 blocks of at most 9220 bytes end far below 2147483647 (document 02,
 // [7]).
-pub fn write(ids: &[u32], values: &[u64], power: u64, out: &mut [u8]) -> Outcome {
-    let why = judged(ids, values, power);
+pub fn write(ids: &[u32], values: &[u64], edition: u64, power: u64, out: &mut [u8]) -> Outcome {
+    let why = judged(ids, values, edition, power);
     if why.number != 0 {
         return why;
     }
-    let f = fields_of(ids, values, power);
+    let f = fields_of(ids, values, edition, power);
     let header = header::put_header(&mut [0u8; 0], f);
     let needed = plus(plus(header, f.id_bytes), f.value_bytes);
     if (out.len() as u64) < needed {

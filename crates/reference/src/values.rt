@@ -1,4 +1,4 @@
-// The value section (document 01, "Value section"; document 02, [2]). A value v stands here as v + 2^63.
+// The value section (document 01, "Value section"; document 02, [2] and [6]). A value v stands here as v + 2^63.
 use super::bytes;
 use super::bytes::ZERO;
 use super::bytes::plus;
@@ -10,10 +10,12 @@ struct Span {
     divisor: u64,
 }
 
+// In edition 2 bits stand low first.
 pub struct Facts {
     pub smallest: u64,
     pub divisor: u64,
     pub width: u64,
+    pub low: bool,
 }
 
 // The difference of two values, a whole number to 2^64 - 1.
@@ -76,30 +78,69 @@ fn width_of(x: u64) -> u64 {
     bytes::minus(64, bytes::long(u64::leading_zeros(x)))
 }
 
+// The first of Lucene 9's widths from w on.
+fn listed(w: u64) -> u64 {
+    match w {
+        0..=2 => w,
+        3..=4 => 4,
+        5..=8 => 8,
+        9..=12 => 12,
+        13..=16 => 16,
+        17..=20 => 20,
+        21..=24 => 24,
+        25..=28 => 28,
+        29..=32 => 32,
+        33..=40 => 40,
+        41..=48 => 48,
+        49..=56 => 56,
+        _ => 64,
+    }
+}
+
 // All values equal (or none, which read as 0): divisor 1, width 0.
-pub fn facts_of(values: &[u64]) -> Facts {
+pub fn facts_of(values: &[u64], low: bool) -> Facts {
     let s = span_of(values);
     if s.smallest == s.greatest {
         return Facts {
             smallest: s.smallest,
             divisor: 1,
             width: 0,
+            low,
         };
     }
     let most = quotient(bytes::minus(s.greatest, s.smallest), s.divisor);
+    let width = width_of(most);
     Facts {
         smallest: s.smallest,
         divisor: s.divisor,
-        width: width_of(most),
+        width: if low { listed(width) } else { width },
+        low,
     }
 }
 
-// Bit j of the section, the one of weight 2^(7 - j mod 8) in byte j div 8: a bit of value j div w, high bit first.
+// Bit k of so many, the first being the highest, or in edition 2 the lowest: how many are below it.
+fn below(low: bool, bits: u64, k: u64) -> u64 {
+    if low {
+        k
+    } else {
+        bytes::minus(bytes::minus(bits, 1), k)
+    }
+}
+
+// Bit j of the section, in byte j div 8: a bit of value j div w. The bits of a value and those of a byte come in the same order.
 fn put_value_bit(out: &mut [u8], base: u64, values: &[u64], f: Facts, j: u64) {
     let above = bytes::minus(bytes::value(values, quotient(j, f.width)), f.smallest);
-    let below = bytes::minus(bytes::minus(f.width, 1), rest(j, f.width));
-    let one = bytes::bit(quotient(above, f.divisor), below);
-    bytes::put_bit(out, plus(base, j / 8), j % 8 == 0, 7 - j % 8, one);
+    let one = bytes::bit(
+        quotient(above, f.divisor),
+        below(f.low, f.width, rest(j, f.width)),
+    );
+    bytes::put_bit(
+        out,
+        plus(base, j / 8),
+        j % 8 == 0,
+        below(f.low, 8, j % 8),
+        one,
+    );
 }
 
 // Puts the section, of that many bits.

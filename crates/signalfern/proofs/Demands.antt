@@ -4,9 +4,9 @@ use Rattle.format.specs.Kit.{_≡_, refl, sym, ap, _∙_, subst, List, _++_, �
 use Rattle.format.specs.Limits.{maxId}
 use Rattle.format.specs.Refusals.{Outcome, done, refused, andThen, need, SHORT, NUMBER}
 use Rattle.format.specs.Pairs.{Pairs, Below, Each, Fits, Valid}
-use Rattle.format.specs.Editions.{Edition, plain, editions}
+use Rattle.format.specs.Editions.{Edition, numberOf, editions}
 use Rattle.format.specs.Column.{column}
-use Rattle.format.specs.Writer.{write, writeReply, writeOut}
+use Rattle.format.specs.Writer.{writeAs, write, writeReply, writeOut}
 use Rattle.format.specs.Opening.{Opened, openColumn}
 use Rattle.format.specs.Check.{accepted, check, reading, readReply, idsAfter, valuesAfter}
 use Rattle.format.specs.LookUp.{stepProbes, lookUp, lookUpProbes}
@@ -15,20 +15,20 @@ use Rattle.format.specs.Replies.{replyOf, answerOf, Probed}
 use Rattle.format.specs.declared.Reply.{Reply}
 use Rattle.format.specs.declared.Answer as An
 use Rattle.format.specs.declared.Answer.{Answer}
-use Rattle.format.proofs.Tests.{result, passed}
-use Rattle.format.proofs.Editions.{lawful-reader}
+use Rattle.format.proofs.Tests.{result, needed, given-some, passed}
+use Rattle.format.proofs.Editions.{lawful-reader, found-number}
 use Rattle.format.proofs.Unique.{written-valid, is-read}
 use Rattle.format.proofs.HeaderFaults.{BrokenAt, EndsAt, number-fault, short-fault, check-from, reading-from, look-up-from}
 use Rattle.format.proofs.Probes.{step-probes-few, opened-probes, look-up-probes-few, accepted-probes}
-use Rattle.format.proofs.Demands.{written-1, checked-1, read-back-1, accepted-answers}
+use Rattle.format.proofs.Demands.{written-told, checked-all, read-back-all, accepted-answers}
 use Rattle.signalfern.proofs.Outputs.{output-kept, output-put, output-is}
 
 -- ---- demand 1: a refused call changes no byte that it was lent
 
-pub refused-write : (p : ℕ) (ids : List ℕ) (vs : List ℤ) (out out′ : List ℕ) (r : Reply) (why w : ℕ)
-    → replyOf r ≡ writeReply (write p ids vs (length out)) → out′ ≡ writeOut (write p ids vs (length out)) out
+pub refused-write : (k p : ℕ) (ids : List ℕ) (vs : List ℤ) (out out′ : List ℕ) (r : Reply) (why w : ℕ)
+    → replyOf r ≡ writeReply (write k p ids vs (length out)) → out′ ≡ writeOut (write k p ids vs (length out)) out
     → replyOf r ≡ refused why w → out′ ≡ out
-refused-write p ids vs out out′ r why w k after e = output-kept out out′ r _ k after why w e
+refused-write k p ids vs out out′ r why w kept after e = output-kept out out′ r _ kept after why w e
 
 pub refused-read : (bytes is is′ : List ℕ) (xs xs′ : List ℤ) (q : Reply) (why w : ℕ)
     → replyOf q ≡ readReply (reading editions bytes (length is) (length xs))
@@ -99,18 +99,39 @@ filled ids vs bytes is is′ xs xs′ q e k ki kx =
 
 -- ---- demand 2: what `write` wrote, `check` accepts with n and `read` gives back
 
-module _ (p : ℕ) (ids : List ℕ) (vs : List ℤ) (fit : Each Fits vs) (out out′ : List ℕ) (r : Reply) (n : ℕ)
-    (kept : replyOf r ≡ writeReply (write p ids vs (length out))) (after : out′ ≡ writeOut (write p ids vs (length out)) out)
+told-edition : (k p : ℕ) (ids : List ℕ) (vs : List ℤ) (room : ℕ) (b : List ℕ) → write k p ids vs room ≡ done b
+    → (ed : Edition) × (k ≡ numberOf ed) × (writeAs ed p ids vs room ≡ done b)
+unfolding write
+told-edition k p ids vs room b e =
+    let s = needed _ _ _ _ b e in
+    let t = passed _ _ b (s .1) in
+    (t .0, found-number editions k (t .0) (given-some _ _ _ _ (t .1)), t .2)
+
+-- the number that `write` was told is an edition's, the lists were within the limits, and the bytes are their column in it
+pub record Wrote (k p : ℕ) (ids : List ℕ) (vs : List ℤ) (bytes : List ℕ) : Type 0 where
+  pub edition : Edition
+  pub number : k ≡ numberOf edition
+  pub valid : Valid p ids vs
+  pub same-bytes : bytes ≡ column edition p ids vs
+
+module _ (k p : ℕ) (ids : List ℕ) (vs : List ℤ) (fit : Each Fits vs) (out out′ : List ℕ) (r : Reply) (n : ℕ)
+    (kept : replyOf r ≡ writeReply (write k p ids vs (length out))) (after : out′ ≡ writeOut (write k p ids vs (length out)) out)
     (wrote : replyOf r ≡ done n) where
-  -- the lists were within the limits, and the first n bytes are their column
-  pub wrote-column : Valid p ids vs × (take n out′ ≡ column plain p ids vs)
+  -- the first n bytes are the lists' column
+  pub wrote-column : Wrote k p ids vs (take n out′)
   wrote-column =
       let b = output-put out out′ r _ kept after n wrote in
-      let v = written-valid plain p ids vs (length out) (b .0) fit (b .1) in
-      (v .0, b .2 ∙ sym (v .1))
+      let t = told-edition k p ids vs (length out) (b .0) (b .1) in
+      let v = written-valid (t .0) p ids vs (length out) (b .0) fit (t .2) in
+      record {
+        edition = t .0;
+        number = t .1;
+        valid = v .0;
+        same-bytes = b .2 ∙ sym (v .1);
+      }
 
   pub write-then-check : (c : Reply) → replyOf c ≡ check editions (take n out′) → replyOf c ≡ done (length ids)
-  write-then-check c k = let w = wrote-column in k ∙ ap (check editions) (w .1) ∙ checked-1 p ids vs (w .0)
+  write-then-check c e = let w = wrote-column in e ∙ ap (check editions) (w .same-bytes) ∙ checked-all (w .edition) p ids vs (w .valid)
 
   pub write-then-read : (q : Reply) (is is′ : List ℕ) (xs xs′ : List ℤ) → length ids ≤ length is → length ids ≤ length xs
       → replyOf q ≡ readReply (reading editions (take n out′) (length is) (length xs))
@@ -119,11 +140,12 @@ module _ (p : ℕ) (ids : List ℕ) (vs : List ℤ) (fit : Each Fits vs) (out ou
   write-then-read q is is′ xs xs′ ri rx =
       let w = wrote-column in
       filled ids vs (take n out′) is is′ xs xs′ q
-      (ap (λ (b : List ℕ). reading editions b (length is) (length xs)) (w .1) ∙ read-back-1 p ids vs (w .0) (length is) (length xs) ri rx)
+      (ap (λ (b : List ℕ). reading editions b (length is) (length xs)) (w .same-bytes)
+      ∙ read-back-all (w .edition) p ids vs (w .valid) (length is) (length xs) ri rx)
 
 -- ---- what `check` accepts: the list, and that `write` gives these bytes for it
 
--- the bytes hold the pairs that `read` gives, and `write` gives the bytes back for them
+-- the bytes hold the pairs that `read` gives, and `write`, told their edition, gives the bytes back for them
 pub record Held (bytes : List ℕ) (n : ℕ) : Type 0 where
   pub opened : Opened
   pub pairs : Pairs
@@ -131,16 +153,13 @@ pub record Held (bytes : List ℕ) (n : ℕ) : Type 0 where
   pub is-accepted : accepted bytes opened ≡ done pairs
   pub count : length (pairs .ids) ≡ n
   pub reads : (idRoom valueRoom : ℕ) → n ≤ idRoom → n ≤ valueRoom → reading editions bytes idRoom valueRoom ≡ done pairs
-  pub writes : (room : ℕ) → length bytes ≤ room → write (opened .head .power) (pairs .ids) (pairs .values) room ≡ done bytes
+  pub writes : (room : ℕ) → length bytes ≤ room
+      → write (numberOf (opened .head .edition)) (opened .head .power) (pairs .ids) (pairs .values) room ≡ done bytes
 
 reads-pairs : (bytes : List ℕ) (o : Opened) (q : Pairs) (idRoom valueRoom : ℕ) → openColumn editions bytes ≡ done o → accepted bytes o ≡ done q
     → o .head .count ≤ idRoom → o .head .count ≤ valueRoom → reading editions bytes idRoom valueRoom ≡ done q
 unfolding reading andThen need
 reads-pairs bytes o q a b eo eq ha hb = rw (eo, le-leb (o .head .count) a ha, le-leb (o .head .count) b hb, eq)
-
--- `write` writes every edition there is
-all-plain : (ed : Edition) → ed ≡ plain
-all-plain plain = refl
 
 module _ (bytes : List ℕ) (c : Reply) (n : ℕ) (kept : replyOf c ≡ check editions bytes) (accepts : replyOf c ≡ done n) where
   pub check-holds : Held bytes n
@@ -151,8 +170,6 @@ module _ (bytes : List ℕ) (c : Reply) (n : ℕ) (kept : replyOf c ≡ check ed
       let t = passed _ _ n (o .2) in
       let s = is-read editions (lawful-reader editions) bytes (o .0) (t .0) (o .1) (t .1) in
       let m : o .0 .head .count ≡ n = ap (result n) (t .2) in
-      let col : column plain (o .0 .head .power) (t .0 .ids) (t .0 .values) ≡ bytes =
-      subst (λ (ed : Edition). column ed (o .0 .head .power) (t .0 .ids) (t .0 .values) ≡ bytes) (all-plain (o .0 .head .edition)) (s .bytes-are) in
       record {
         opened = o .0;
         pairs = t .0;
@@ -161,8 +178,8 @@ module _ (bytes : List ℕ) (c : Reply) (n : ℕ) (kept : replyOf c ≡ check ed
         count = s .count ∙ m;
         reads = λ a b ha hb. reads-pairs bytes (o .0) (t .0) a b (o .1) (t .1) (omega arith) (omega arith);
         writes = λ room h.
-            written-1 (o .0 .head .power) (t .0 .ids) (t .0 .values) (s .valid) room (omega (arith, ap length col))
-            ∙ ap {B = Outcome (List ℕ)} (λ (b : List ℕ). done b) col;
+            written-told (o .0 .head .edition) (o .0 .head .power) (t .0 .ids) (t .0 .values) (s .valid) room (omega (arith, ap length (s .bytes-are)))
+            ∙ ap {B = Outcome (List ℕ)} (λ (b : List ℕ). done b) (s .bytes-are);
       }
 
   -- `read` gives that list
@@ -173,10 +190,14 @@ module _ (bytes : List ℕ) (c : Reply) (n : ℕ) (kept : replyOf c ≡ check ed
   check-then-read q is is′ xs xs′ ri rx =
       filled (check-holds .pairs .ids) (check-holds .pairs .values) bytes is is′ xs xs′ q (check-holds .reads (length is) (length xs) ri rx)
 
-  -- and `write` gives these bytes for it, wherever the output has room
+  -- what `write` makes of it, told the edition of these bytes
+  abbrev again : ℕ → Outcome (List ℕ)
+  again room =
+      write (numberOf (check-holds .opened .head .edition)) (check-holds .opened .head .power) (check-holds .pairs .ids) (check-holds .pairs .values) room
+
+  -- are these bytes, wherever the output has room
   pub check-then-write : (r : Reply) (out out′ : List ℕ) → length bytes ≤ length out
-      → replyOf r ≡ writeReply (write (check-holds .opened .head .power) (check-holds .pairs .ids) (check-holds .pairs .values) (length out))
-      → out′ ≡ writeOut (write (check-holds .opened .head .power) (check-holds .pairs .ids) (check-holds .pairs .values) (length out)) out
+      → replyOf r ≡ writeReply (again (length out)) → out′ ≡ writeOut (again (length out)) out
       → (replyOf r ≡ done (length bytes)) × (take (length bytes) out′ ≡ bytes)
   check-then-write r out out′ room k after = output-is out out′ r _ bytes (check-holds .writes (length out) room) k after
 

@@ -4,7 +4,7 @@
 use Rattle.format.specs.Kit.{_≡_, sym, ap, _∙_, List, ℕ, _≤_, arith, ℤ, length, take}
 use Rattle.format.specs.Limits.{maxId}
 use Rattle.format.specs.Refusals.{Outcome, done, refused, andThen, SHORT, NUMBER}
-use Rattle.format.specs.Editions.{plain, editions}
+use Rattle.format.specs.Editions.{editions}
 use Rattle.format.specs.Pairs.{Below, Each, Fits, ValidIds}
 use Rattle.format.specs.Writer.{write, writeReply, writeOut}
 use Rattle.format.specs.Check.{check}
@@ -103,15 +103,16 @@ module _ (bytes : List ℕ) (c : Reply) (n : ℕ) (kept : replyOf c ≡ check ed
       (h .pairs .ids) (h .pairs .values) (s .valid) id
       ∙ ap (λ (b : List ℕ). setFind b id) e ∙ sym km
 
--- what `write` and `set_write` wrote of the same ids, with any values and at any rank power
-module _ (p : ℕ) (ids : List ℕ) (vs : List ℤ) (fit : Each Fits vs) (out out′ : List ℕ) (r : Reply) (n : ℕ)
-    (kept : replyOf r ≡ writeReply (write p ids vs (length out))) (after : out′ ≡ writeOut (write p ids vs (length out)) out)
+-- what `write` and `set_write` wrote of the same ids, with any values, in any edition and at any rank power
+module _ (ed p : ℕ) (ids : List ℕ) (vs : List ℤ) (fit : Each Fits vs) (out out′ : List ℕ) (r : Reply) (n : ℕ)
+    (kept : replyOf r ≡ writeReply (write ed p ids vs (length out))) (after : out′ ≡ writeOut (write ed p ids vs (length out)) out)
     (wrote : replyOf r ≡ done n) (room room′ : List ℕ) (q : Reply) (k : ℕ) (kept-set : replyOf q ≡ writeReply (setWrite ids (length room)))
     (after-set : room′ ≡ writeOut (setWrite ids (length room)) room) (set-wrote : replyOf q ≡ done k) where
   pub written-alike : (id : ℕ) (a : Answer) (m : Member) → answerOf a ≡ lookUp editions (take n out′) id → memberOf m ≡ setFind (take k room′) id
       → told a ≡ memberOf m
   written-alike id a m ka km =
-      let w = wrote-column p ids vs fit out out′ r n kept after wrote in
+      let w = wrote-column ed p ids vs fit out out′ r n kept after wrote in
       let s = wrote-set ids room room′ q k kept-set after-set set-wrote in
-      ap (λ (o : Outcome Look). andThen o (λ (l : Look). done (asMember l))) (ka ∙ ap (λ (b : List ℕ). lookUp editions b id) (w .1))
-      ∙ alike plain (lawful plain) editions (knows-all plain) p ids vs (w .0) id ∙ ap (λ (b : List ℕ). setFind b id) (sym (s .1)) ∙ sym km
+      ap (λ (o : Outcome Look). andThen o (λ (l : Look). done (asMember l))) (ka ∙ ap (λ (b : List ℕ). lookUp editions b id) (w .same-bytes))
+      ∙ alike (w .edition) (lawful (w .edition)) editions (knows-all (w .edition)) p ids vs (w .valid) id
+      ∙ ap (λ (b : List ℕ). setFind b id) (sym (s .1)) ∙ sym km

@@ -26,15 +26,16 @@ use format::Reply;
 use layered::Layered;
 use layered::Part;
 
-// Writes the column of the pairs (ids, values) at rank power `power` into `out` and hands back its byte count. Refusals 1 to 4
-// and 6 in order, each over the whole input before the next; a refusal changes nothing, and success exactly the column's bytes.
-pub fn write(ids: &[u32], values: &[i64], power: u32, out: &mut [u8]) -> Reply
-    ensures replies { λ r. ⌜ replyOf r ≡ writeReply (write power (now (ids .entry)) (now (values .entry)) (length (now (out .entry)))) ⌝ }
+// Writes the column of the pairs (ids, values) in edition 1 or 2, by its number, at rank power `power` into `out` and hands back its byte
+// count. Refusals 1, 9, 2 to 4 and 6 in order, each over the whole input before the next; a refusal changes nothing, and success exactly
+// the column's bytes.
+pub fn write(ids: &[u32], values: &[i64], edition: u32, power: u32, out: &mut [u8]) -> Reply
+    ensures replies { λ r. ⌜ replyOf r ≡ writeReply (write edition power (now (ids .entry)) (now (values .entry)) (length (now (out .entry)))) ⌝ }
     ensures written { λ _.
         ⌜ now (out .exit)
-        ≡ writeOut (write power (now (ids .entry)) (now (values .entry)) (length (now (out .entry)))) (now (out .entry)) ⌝ }
+        ≡ writeOut (write edition power (now (ids .entry)) (now (values .entry)) (length (now (out .entry)))) (now (out .entry)) ⌝ }
 {
-    writer::write(ids, values, power, out)
+    writer::write(ids, values, edition, power, out)
 }
 
 // Checks that the bytes are the column of some pair list, and hands back its n. Refusals 7 to 11, then 13.

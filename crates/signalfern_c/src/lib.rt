@@ -215,15 +215,16 @@ fn candidate_c(next: Next) -> CCandidate
 pub extern "C" fn signalfern_write(
     ids: &[u32],
     values: &[i64],
+    edition: u32,
     power: u32,
     out: &mut [u8],
 ) -> CReply
-    ensures replies { λ r. ⌜ r ≡ replyC (writeReply (write power (now (ids .entry)) (now (values .entry)) (length (now (out .entry))))) ⌝ }
+    ensures replies { λ r. ⌜ r ≡ replyC (writeReply (write edition power (now (ids .entry)) (now (values .entry)) (length (now (out .entry))))) ⌝ }
     ensures written { λ _.
         ⌜ now (out .exit)
-        ≡ writeOut (write power (now (ids .entry)) (now (values .entry)) (length (now (out .entry)))) (now (out .entry)) ⌝ }
+        ≡ writeOut (write edition power (now (ids .entry)) (now (values .entry)) (length (now (out .entry)))) (now (out .entry)) ⌝ }
 {
-    let reply = signalfern::write(ids, values, power, out);
+    let reply = signalfern::write(ids, values, edition, power, out);
     reply_c(reply)
 }
 
@@ -252,7 +253,8 @@ pub extern "C" fn signalfern_read(bytes: &[u8], ids: &mut [u32], values: &mut [i
 #[no_mangle]
 pub extern "C" fn signalfern_look_up(bytes: &[u8], id: u32) -> CAnswer
     ensures answers { λ r. ⌜ r ≡ answerC (lookUpProbes editions (now (bytes .entry)) id) (lookUp editions (now (bytes .entry)) id) ⌝ }
-    ensures words { λ _. ⌜ ((c : Op.Opened) → openColumn editions (now (bytes .entry)) ≡ done c → FewWords (c .head .power) (lookUp editions (now (bytes .entry)) id)) ⌝ }
+    ensures words { λ _. ⌜ ((c : Op.Opened) → openColumn editions (now (bytes .entry)) ≡ done c
+        → FewWords (c .head .power) (lookUp editions (now (bytes .entry)) id)) ⌝ }
 {
     let answer = signalfern::look_up(bytes, id);
     answer_c(answer)

@@ -1,9 +1,11 @@
 -- The tests of each edition take just what some values are written as. Assumes nothing.
-use Rattle.format.specs.Editions.{Edition, plain, codec}
+use Rattle.format.specs.Editions.{Edition, plain, lucene, codec}
 use Rattle.format.proofs.Halves.{Tested}
-use Rattle.plain_check.proofs.Accepted.{plain-tested}
+use Rattle.packings.specs.declared.Order as Od
+use Rattle.scaled_check.proofs.Accepted.{scaled-tested}
 use Rattle.values.specs.Edition.{tests}
 
 pub tested : (ed : Edition) → Tested (codec ed) (tests ed)
-unfolding tests
-tested plain = plain-tested
+unfolding codec tests
+tested plain = scaled-tested Od.Order.High
+tested lucene = scaled-tested Od.Order.Low

@@ -8,16 +8,23 @@ ghost use lib.IntN.{ℤ};
 ghost use lib.ListN.{length, drop};
 ghost use Rattle.format.specs.Limits.{maxCount, maxWidth};
 ghost use Rattle.format.specs.Pairs.{Each, Fits};
+ghost use Rattle.format.specs.HeaderNumbers.{unzigzag};
+ghost use Rattle.format.specs.Values.{valueAt};
+ghost use Rattle.format.specs.Codec.{signed64, scaled};
 ghost use Rattle.format.specs.Editions.{codec};
 ghost use Rattle.format.specs.Check.{allValues};
+ghost use Rattle.packings.specs.Packings.{packingOf};
 ghost use Rattle.values.specs.Edition.{editionOf, fieldsOf, fetchedOf, tests};
 pub use format::Fetched;
 pub use format::Fields;
+use packings::Order;
 
 // The editions of a column.
 pub enum Edition {
     // Document 01's, edition 1.
     Plain,
+    // Lucene 9's packing, edition 2 (document 02, [6]).
+    Lucene,
 }
 
 // Whether the header's fields, and v as the value section's length, keep the header rules on the n values.
@@ -26,7 +33,8 @@ pub fn rules(edition: Edition, n: u64, fields: Fields, v: u64) -> bool
     ensures { λ r. ⌜ r ≡ codec (editionOf edition) .fieldsOk n (fieldsOf fields) v ⌝ }
 {
     match edition {
-        Edition::Plain => plain_values::rules(n, fields, v),
+        Edition::Plain => scaled_values::rules(Order::High, n, fields, v),
+        Edition::Lucene => scaled_values::rules(Order::Low, n, fields, v),
     }
 }
 
@@ -37,7 +45,8 @@ pub fn plan(edition: Edition, values: &[i64]) -> Fields
     ensures { λ r. ⌜ (fieldsOf r ≡ codec (editionOf edition) .fields (now (values .entry))) × Each Fits (now (values .entry)) ⌝ }
 {
     match edition {
-        Edition::Plain => plain_values::plan(values),
+        Edition::Plain => scaled_values::plan(Order::High, values),
+        Edition::Lucene => scaled_values::plan(Order::Low, values),
     }
 }
 
@@ -47,7 +56,8 @@ pub fn length(edition: Edition, values: &[i64], fields: Fields) -> u64
     ensures { λ r. ⌜ (r ≡ length (codec (editionOf edition) .section (now (values .entry)))) × (r ≤ 8 * length (now (values .entry))) ⌝ }
 {
     match edition {
-        Edition::Plain => plain_values::length(values, fields),
+        Edition::Plain => scaled_values::length(Order::High, values, fields),
+        Edition::Lucene => scaled_values::length(Order::Low, values, fields),
     }
 }
 
@@ -59,20 +69,44 @@ pub fn put(out: &mut [u8], edition: Edition, values: &[i64], fields: Fields)
         ++ drop (length (codec (editionOf edition) .section (now (values .entry)))) (now (out .entry)) ⌝ }
 {
     match edition {
-        Edition::Plain => plain_values::put(out, values, fields),
+        Edition::Plain => scaled_values::put(out, Order::High, values, fields),
+        Edition::Lucene => scaled_values::put(out, Order::Low, values, fields),
     }
 }
 
 // ---- reading: a section that keeps the header rules
 
-// Step 7: the value of ordinal i, of n.
-pub fn value_at(section: &[u8], edition: Edition, n: u64, fields: Fields, i: u64) -> Fetched
-    requires { ⌜ (n ≤ maxCount) × (codec (editionOf edition) .fieldsOk n (fieldsOf fields) (length (now section)) ≡ true) × (i < n) ⌝ }
-    ensures { λ r. ⌜ fetchedOf r ≡ codec (editionOf edition) .value n (fieldsOf fields) (now (section .entry)) i ⌝ }
+// The packing of an edition whose values have one smallest value, divisor and width.
+fn order_of(edition: Edition) -> Order
+    ensures { λ r. ⌜ codec (editionOf edition) ≡ scaled (packingOf r) ⌝ }
 {
     match edition {
-        Edition::Plain => plain_values::value_at(section, n, fields, i),
+        Edition::Plain => Order::High,
+        Edition::Lucene => Order::Low,
     }
+}
+
+// Step 7: the number stored for ordinal i, of n. What it stands for is `value_of`'s: as two calls both are compiled into the look-up, the next
+// candidate and the page.
+pub fn stored_at(section: &[u8], edition: Edition, n: u64, fields: Fields, i: u64) -> u64
+    requires { ⌜ (n ≤ maxCount) × (codec (editionOf edition) .fieldsOk n (fieldsOf fields) (length (now section)) ≡ true) × (i < n) ⌝ }
+    ensures { λ r. ⌜ (0 < fields .divisor) × (codec (editionOf edition) .value n (fieldsOf fields) (now (section .entry)) i
+        ≡ signed64 (valueAt (unzigzag (fields .smallest)) (fields .divisor) r)) ⌝ }
+{
+    packings::fetch(
+        section,
+        order_of(edition),
+        fields.width as usize,
+        i as usize,
+    ).number
+}
+
+// And its value, which must fit in 64 bits.
+pub fn value_of(fields: Fields, stored: u64) -> Fetched
+    requires { ⌜ 0 < fields .divisor ⌝ }
+    ensures { λ r. ⌜ fetchedOf r ≡ signed64 (valueAt (unzigzag (fields .smallest)) (fields .divisor) stored) ⌝ }
+{
+    scaling::value_of(fields.smallest, fields.divisor, stored)
 }
 
 // Whether the section is that of its n values, and the fields are theirs.
@@ -81,18 +115,20 @@ pub fn check(section: &[u8], edition: Edition, n: u64, fields: Fields) -> bool
     ensures { λ r. ⌜ r ≡ tests (editionOf edition) n (fieldsOf fields) (now (section .entry)) ⌝ }
 {
     match edition {
-        Edition::Plain => plain_check::values_ok(section, n, fields),
+        Edition::Plain => scaled_check::values_ok(section, Order::High, n, fields),
+        Edition::Lucene => scaled_check::values_ok(section, Order::Low, n, fields),
     }
 }
 
 // The n values, each of which is there, from the buffer's front on.
 pub fn fill(values: &mut [i64], section: &[u8], edition: Edition, n: u64, fields: Fields)
-    requires { ⌜ (codec (editionOf edition) .fieldsOk n (fieldsOf fields) (length (now section)) ≡ true) × (n ≤ length (now values))
+    requires { ⌜ (n ≤ maxCount) × (codec (editionOf edition) .fieldsOk n (fieldsOf fields) (length (now section)) ≡ true) × (n ≤ length (now values))
         × ((vs : List ℤ) × (allValues n (codec (editionOf edition) .value n (fieldsOf fields) (now section)) ≡ some vs)) ⌝ }
     ensures { λ _. ⌜ ((vs : List ℤ) → allValues n (codec (editionOf edition) .value n (fieldsOf fields) (now (section .entry))) ≡ some vs
         → now (values .exit) ≡ vs ++ drop n (now (values .entry))) ⌝ }
 {
     match edition {
-        Edition::Plain => plain_reader::fill(values, section, n as usize, fields),
+        Edition::Plain => scaled_reader::fill(values, section, Order::High, n as usize, fields),
+        Edition::Lucene => scaled_reader::fill(values, section, Order::Low, n as usize, fields),
     }
 }

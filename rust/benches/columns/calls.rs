@@ -3,7 +3,7 @@
 
 use std::hint::black_box;
 
-use signalfern::Column;
+use signalfern::{Column, Edition};
 use signalfern_reference as reference;
 
 use crate::inputs::{Input, LOOK_UPS};
@@ -14,7 +14,10 @@ pub fn write(input: &Input, runs: usize) -> Measured {
     let measured = Measured::of(
         runs,
         &mut out,
-        |out| signalfern::write(&input.ids, &input.values, 9, out).map_or(0, |len| len as u64),
+        |out| {
+            signalfern::write(&input.ids, &input.values, Edition::Plain, 9, out)
+                .map_or(0, |len| len as u64)
+        },
         |out| reference_write(&input.ids, &input.values, out),
     );
     assert!(out == input.bytes);
@@ -112,7 +115,7 @@ fn reference_value(answer: Result<reference::Answer, reference::Refusal>) -> u64
 
 #[inline(never)]
 fn reference_write(ids: &[u32], values: &[i64], out: &mut [u8]) -> u64 {
-    reference::write(black_box(ids), values, 9, out).unwrap_or(0)
+    reference::write(black_box(ids), values, 1, 9, out).unwrap_or(0)
 }
 
 #[inline(never)]

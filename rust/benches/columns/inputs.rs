@@ -1,5 +1,7 @@
 //! Columns to measure on, and ids to ask them for.
 
+use signalfern::Edition;
+
 /// Look-ups in one run.
 pub const LOOK_UPS: usize = 1_000;
 
@@ -60,6 +62,7 @@ impl Order {
 
 /// A list of pairs and its column.
 pub struct Input {
+    pub edition: Edition,
     pub shape: Shape,
     pub ids: Vec<u32>,
     pub values: Vec<i64>,
@@ -67,8 +70,13 @@ pub struct Input {
 }
 
 impl Input {
-    /// Whole blocks, until there are at least so many pairs.
+    /// Whole blocks, until there are at least so many pairs. Of edition 1.
     pub fn new(shape: Shape, pairs: usize, values: Values) -> Self {
+        Self::of_edition(shape, pairs, values, Edition::Plain)
+    }
+
+    /// The same list in an edition.
+    pub fn of_edition(shape: Shape, pairs: usize, values: Values, edition: Edition) -> Self {
         let mut random = Random(7);
         let mut ids = Vec::new();
         for block in 0.. {
@@ -79,8 +87,9 @@ impl Input {
             ids.extend(places.map(|place| (block << 16) | place));
         }
         let values = values.list(&mut random, ids.len());
-        let bytes = signalfern::write_to_vec(&ids, &values, 9).expect("a list of pairs");
+        let bytes = signalfern::write_to_vec(&ids, &values, edition, 9).expect("a list of pairs");
         Self {
+            edition,
             shape,
             ids,
             values,

@@ -1,6 +1,6 @@
 //! The look-up with a correction on top, beside the look-ups that it is made of.
 
-use signalfern::{Column, Layered};
+use signalfern::{Column, Edition, Layered};
 
 use crate::calls::{value, Turns};
 use crate::inputs::{Input, Order, Shape, Values, LOOK_UPS};
@@ -16,7 +16,8 @@ pub fn table(effort: &Effort) -> Table {
     let machine = Input::new(Shape::Mixed, effort.pairs, Values::Any(12));
     let ids: Vec<u32> = machine.ids.iter().copied().step_by(CORRECTED).collect();
     let values: Vec<i64> = (0..ids.len() as i64).map(|index| index % 100).collect();
-    let correction = signalfern::write_to_vec(&ids, &values, 9).expect("a list of pairs");
+    let correction =
+        signalfern::write_to_vec(&ids, &values, Edition::Plain, 9).expect("a list of pairs");
     let [below, above] =
         [&machine.bytes, &correction].map(|bytes| Column::open(bytes).expect("a sound column"));
     let layers = Layered::new(below, above);

@@ -5,6 +5,7 @@
 //! cleared between runs. Each run of look-ups takes the next thousand ids.
 
 mod calls;
+mod editions;
 mod inputs;
 mod layered;
 mod measure;
@@ -48,6 +49,7 @@ fn run(options: &Options) -> Result<(), String> {
         Rows::Next => next::table(effort),
         Rows::Layered => layered::table(effort),
         Rows::Pages => page::table(effort),
+        Rows::Editions => editions::table(effort),
     };
     table.print(options.before.as_ref());
     let mut times = Times::default();

@@ -2,7 +2,7 @@
 
 use std::hint::black_box;
 
-use signalfern::{Column, Cursor, MAX_ID};
+use signalfern::{Column, Cursor, Edition, MAX_ID};
 use signalfern_reference as reference;
 
 use crate::calls::{value, Turns};
@@ -46,7 +46,8 @@ pub fn table(effort: &Effort) -> Table {
     let measured = by_column(&input.bytes, &targets, effort.runs);
     let what = "next in a sparse block, beside the reference's";
     table.add("4000 ids a block", what, "call", LOOK_UPS, measured);
-    let gap = signalfern::write_to_vec(&[0, 32_001 << 16], &[1, 2], 9).expect("a list of pairs");
+    let gap = signalfern::write_to_vec(&[0, 32_001 << 16], &[1, 2], Edition::Plain, 9)
+        .expect("a list of pairs");
     let measured = by_column(&gap, &[1], effort.runs);
     let what = "next past 32000 missing blocks, beside the reference's";
     table.add("two ids", what, "call", 1, measured);

@@ -47,6 +47,8 @@ pub enum Rows {
     Layered,
     /// A page of ids in one call, beside single look-ups and beside the reference's.
     Pages,
+    /// Edition 2 beside edition 1, at each width.
+    Editions,
 }
 
 /// What stood on the command line.
@@ -83,6 +85,7 @@ impl Options {
                 "--next" => options.rows = Rows::Next,
                 "--layered" => options.rows = Rows::Layered,
                 "--pages" => options.rows = Rows::Pages,
+                "--editions" => options.rows = Rows::Editions,
                 "--plot" => options.plot = Some(value()?.into()),
                 "--save" => options.save = Some(value()?.into()),
                 "--beside" => options.before = Some(Times::read(value()?.as_ref())?),
@@ -94,12 +97,13 @@ impl Options {
 }
 
 const USAGE: &str = "cargo bench --bench columns -- [--widths | --divisors | --counts | --next | \
---layered | --pages | --plot FILE.svg] [--save FILE] [--beside FILE]
+--layered | --pages | --editions | --plot FILE.svg] [--save FILE] [--beside FILE]
   --widths       the calls at each width of stored numbers in place of each kind of block
   --divisors     the calls on values with large and small divisors
   --counts       look-ups alone, in blocks of few ids to many
   --next         the next candidate, beside the look-up, the reading and the reference
   --layered      the look-up with a correction on top, beside the look-ups that it is made of
   --pages        a page of ids in one call, beside look-ups by an opened column and the reference's page
+  --editions     the calls on columns of edition 2, beside edition 1's of the same pairs, at each width
   --plot FILE    how look-up, check and reading grow with the pairs and with the bytes, drawn
   --save FILE    keep the times; --beside FILE sets such times, of another revision, beside these";

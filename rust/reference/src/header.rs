@@ -1,14 +1,12 @@
 //! The header: nine numbers in groups of seven bits.
 
-use crate::{power_allowed, values, Refusal, MAX_COUNT, MAX_JUMPS, MAX_WIDTH};
+use crate::values::{self, Edition};
+use crate::{power_allowed, Refusal, MAX_COUNT, MAX_JUMPS};
 
 /// The longest header: nine numbers of ten bytes.
 const LONGEST: usize = 90;
 
-/// The edition that document 01 lays down.
-pub(crate) const EDITION: u64 = 1;
-
-/// The header's numbers after the edition, and where the id section starts.
+/// The header's numbers, and where the id section starts.
 #[derive(Clone, Copy, Debug, Default, PartialEq, Eq)]
 pub struct Column {
     /// The edition.
@@ -63,11 +61,10 @@ impl Column {
 
     /// "Header rules".
     fn keeps_the_rules(&self) -> bool {
-        self.edition == EDITION
+        Edition::numbered(self.edition).is_some_and(|edition| edition.allows(self.width))
             && self.count <= MAX_COUNT
             && power_allowed(self.power)
             && self.jump_count <= MAX_JUMPS
-            && self.width <= MAX_WIDTH
             && self.divisor >= 1
             && self.id_bytes >= 6 + 8 * self.jump_count
             && self.value_bytes == values::section_bytes(self.count, self.width)
@@ -130,7 +127,7 @@ pub(crate) fn take_number(bytes: &[u8], place: &mut usize) -> Result<u64, Refusa
 pub fn open(bytes: &[u8]) -> Result<Column, Refusal> {
     let mut place = 0;
     let edition = take_number(bytes, &mut place)?;
-    if edition != EDITION {
+    if Edition::numbered(edition).is_none() {
         return Err(Refusal::EDITION);
     }
     let mut next = || take_number(bytes, &mut place);
@@ -193,7 +190,10 @@ mod tests {
 
     #[test]
     fn the_edition_comes_before_the_second_number() {
-        assert_eq!(open(&[2, 0x80, 0]), Err(Refusal::EDITION));
+        for edition in [0, 3, 4, 5, 0x7F] {
+            assert_eq!(open(&[edition, 0x80, 0]), Err(Refusal::EDITION));
+        }
+        assert_eq!(open(&[2, 0x80, 0]), Err(Refusal::bad_number(2)));
         assert_eq!(open(&[1, 0x80, 0]), Err(Refusal::bad_number(2)));
         assert_eq!(open(&[0x81, 0, 0x80, 0]), Err(Refusal::bad_number(1)));
     }

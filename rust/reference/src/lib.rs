@@ -9,6 +9,7 @@ mod header;
 mod ids;
 mod layered;
 mod look_up;
+mod lucene;
 mod next;
 mod page;
 mod set;
@@ -127,19 +128,27 @@ fn in_order_and_range(ids: &[u32]) -> Result<(), Refusal> {
     Ok(())
 }
 
-/// Writes the column of the pairs to the front of `out`, and gives its byte count.
-pub fn write(ids: &[u32], values: &[i64], power: u32, out: &mut [u8]) -> Result<u64, Refusal> {
+/// Writes the column of the pairs, of the edition with this number, to the front of `out`, and gives
+/// its byte count.
+pub fn write(
+    ids: &[u32],
+    values: &[i64],
+    edition: u32,
+    power: u32,
+    out: &mut [u8],
+) -> Result<u64, Refusal> {
     if ids.len() != values.len() {
         return Err(Refusal::LENGTHS);
     }
+    let packing = values::Edition::numbered(edition.into()).ok_or(Refusal::EDITION)?;
     if !power_allowed(u64::from(power)) {
         return Err(Refusal::POWER);
     }
     in_order_and_range(ids)?;
     let layout = ids::Layout::of(ids, power);
-    let plan = values::Plan::of(values);
+    let plan = values::Plan::of(values, packing);
     let column = Column {
-        edition: header::EDITION,
+        edition: u64::from(edition),
         count: ids.len() as u64,
         power: u64::from(power),
         id_bytes: layout.bytes(),

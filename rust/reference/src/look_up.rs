@@ -2,7 +2,7 @@
 
 use crate::ids::{data_bytes, rank_bytes, short, Kind};
 use crate::sparse::{halve, scan};
-use crate::values::{fetch, value_of};
+use crate::values::{stored, value_of};
 use crate::{open, Answer, Column, Refusal, MAX_ID};
 
 /// Looks one id up.
@@ -130,7 +130,7 @@ impl<'a> Block<'a> {
             return Err(Refusal::BROKEN);
         }
         let ordinal = self.ordinal + inner as u64;
-        let stored = fetch(values, column.width as u32, ordinal as usize);
+        let stored = stored(column, values, ordinal as usize);
         let value = value_of(column, stored).ok_or(Refusal::BROKEN)?;
         Ok((ordinal, value))
     }

@@ -2,6 +2,7 @@
 //! the pair list itself.
 
 mod divisor;
+mod editions;
 mod layered;
 mod next;
 mod page;
@@ -23,8 +24,11 @@ fn put_low_first(out: &mut Vec<u8>, number: usize, bytes: usize) {
     out.extend((0..bytes).map(|i| (number >> (8 * i)) as u8));
 }
 
-/// The document's rules one by one, with no thought of speed.
-fn plain_column(pairs: &BTreeMap<u32, i64>, power: u32) -> Vec<u8> {
+/// The numbers of the editions.
+const EDITIONS: [u32; 2] = [1, 2];
+
+/// The documents' rules one by one, with no thought of speed.
+fn plain_column(pairs: &BTreeMap<u32, i64>, edition: u32, power: u32) -> Vec<u8> {
     let mut blocks: BTreeMap<usize, Vec<usize>> = BTreeMap::new();
     for &id in pairs.keys() {
         let block = blocks.entry(id as usize / 65536).or_default();
@@ -73,15 +77,24 @@ fn plain_column(pairs: &BTreeMap<u32, i64>, power: u32) -> Vec<u8> {
         divisor = differences.fold(0, plain_gcd);
     }
     let spread = (greatest - smallest) as u128 / divisor;
-    let width = (0..).find(|&w| spread < 1 << w).unwrap_or(0);
+    let mut widths: Vec<usize> = (0..=64).collect();
+    if edition == 2 {
+        widths = vec![0, 1, 2, 4, 8, 12, 16, 20, 24, 28, 32, 40, 48, 56, 64];
+    }
+    let suffices = |&w: &usize| spread < 1 << w;
+    let width = widths.into_iter().find(suffices).expect("64 is enough");
     let mut bits = Vec::new();
     for v in exact {
         let stored = (v - smallest) as u128 / divisor;
-        bits.extend((0..width).rev().map(|bit| stored >> bit & 1 == 1));
+        let low_first = (0..width).map(|bit| stored >> bit & 1 == 1);
+        match edition {
+            1 => bits.extend(low_first.rev()),
+            _ => bits.extend(low_first),
+        }
     }
     let mut packed = vec![0u8; bits.len().div_ceil(8)];
     for (j, _) in bits.iter().enumerate().filter(|(_, &bit)| bit) {
-        packed[j / 8] |= 1 << (7 - j % 8);
+        packed[j / 8] |= 1 << if edition == 1 { 7 - j % 8 } else { j % 8 };
     }
 
     let least = if smallest >= 0 {
@@ -91,7 +104,7 @@ fn plain_column(pairs: &BTreeMap<u32, i64>, power: u32) -> Vec<u8> {
     };
     let mut out = Vec::new();
     for number in [
-        1,
+        edition as usize,
         pairs.len(),
         power as usize,
         section.len(),
@@ -163,20 +176,22 @@ fn writes_as_the_plain_writer_does() {
         let power = [0, 7, 8, 9, 10, 11, 12, 13, 14, 15][round % 10];
         let ids: Vec<u32> = pairs.keys().copied().collect();
         let values: Vec<i64> = pairs.values().copied().collect();
-        let column = plain_column(&pairs, power);
-        let mut out = vec![0xAA; column.len()];
-        assert_eq!(
-            write(&ids, &values, power, &mut out),
-            Ok(column.len() as u64)
-        );
-        assert!(out == column, "round {round}");
+        for edition in EDITIONS {
+            let column = plain_column(&pairs, edition, power);
+            let mut out = vec![0xAA; column.len()];
+            assert_eq!(
+                write(&ids, &values, edition, power, &mut out),
+                Ok(column.len() as u64)
+            );
+            assert!(out == column, "round {round}");
 
-        assert_eq!(check(&column), Ok(ids.len() as u64));
-        let mut read_ids = vec![0; ids.len()];
-        let mut read_values = vec![0; ids.len()];
-        let count = read(&column, &mut read_ids, &mut read_values);
-        assert_eq!(count, Ok(ids.len() as u64));
-        assert!(read_ids == ids && read_values == values, "round {round}");
+            assert_eq!(check(&column), Ok(ids.len() as u64));
+            let mut read_ids = vec![0; ids.len()];
+            let mut read_values = vec![0; ids.len()];
+            let count = read(&column, &mut read_ids, &mut read_values);
+            assert_eq!(count, Ok(ids.len() as u64));
+            assert!(read_ids == ids && read_values == values, "round {round}");
+        }
     }
 }
 
@@ -192,11 +207,14 @@ fn packs_small_lists_as_the_plain_writer_does() {
         }
         let ids: Vec<u32> = pairs.keys().copied().collect();
         let values: Vec<i64> = pairs.values().copied().collect();
-        let column = plain_column(&pairs, 9);
-        let mut out = vec![0xAA; column.len()];
-        assert_eq!(write(&ids, &values, 9, &mut out), Ok(column.len() as u64));
-        assert_eq!(out, column);
-        assert_eq!(check(&column), Ok(ids.len() as u64));
+        for edition in EDITIONS {
+            let column = plain_column(&pairs, edition, 9);
+            let mut out = vec![0xAA; column.len()];
+            let written = write(&ids, &values, edition, 9, &mut out);
+            assert_eq!(written, Ok(column.len() as u64));
+            assert_eq!(out, column);
+            assert_eq!(check(&column), Ok(ids.len() as u64));
+        }
     }
 }
 
@@ -222,7 +240,7 @@ fn looks_up_what_the_list_holds() {
     for round in 0..30 {
         let pairs = some_pairs(&mut random);
         let power = [0, 7, 9, 12, 15][round % 5];
-        let column = plain_column(&pairs, power);
+        let column = plain_column(&pairs, EDITIONS[round % 2], power);
         let opened = open(&column).expect("a written column opens");
         let listed: Vec<u32> = pairs.keys().copied().collect();
         for _ in 0..500 {

@@ -1,6 +1,41 @@
 //! The value section: smallest value, divisor, width, and the packed numbers.
 
-use crate::Column;
+use crate::{lucene, Column, MAX_WIDTH};
+
+/// The editions: they differ in the widths and in the order of the bits.
+#[derive(Clone, Copy, PartialEq, Eq)]
+pub(crate) enum Edition {
+    /// Document 01's.
+    Plain,
+    /// Document 02's, [6].
+    Lucene,
+}
+
+impl Edition {
+    pub fn numbered(number: u64) -> Option<Self> {
+        match number {
+            1 => Some(Self::Plain),
+            2 => Some(Self::Lucene),
+            _ => None,
+        }
+    }
+
+    /// Whether stored numbers may have this width.
+    pub fn allows(self, width: u64) -> bool {
+        match self {
+            Self::Plain => width <= MAX_WIDTH,
+            Self::Lucene => lucene::allows(width),
+        }
+    }
+
+    /// The least width whose numbers go up to this one.
+    fn width_for(self, most: u64) -> u32 {
+        match self {
+            Self::Plain => 64 - most.leading_zeros(),
+            Self::Lucene => lucene::width_for(most),
+        }
+    }
+}
 
 /// n times w over 8, rounded up.
 pub(crate) fn section_bytes(count: u64, width: u64) -> u64 {
@@ -12,10 +47,11 @@ pub(crate) struct Plan {
     pub smallest: i64,
     pub divisor: u64,
     pub width: u32,
+    edition: Edition,
 }
 
 impl Plan {
-    pub fn of(values: &[i64]) -> Self {
+    pub fn of(values: &[i64], edition: Edition) -> Self {
         let smallest = values.iter().copied().min().unwrap_or(0);
         let greatest = values.iter().copied().max().unwrap_or(0);
         if smallest == greatest {
@@ -23,6 +59,7 @@ impl Plan {
                 smallest,
                 divisor: 1,
                 width: 0,
+                edition,
             };
         }
         let divisor = divisor(values);
@@ -30,7 +67,8 @@ impl Plan {
         Self {
             smallest,
             divisor,
-            width: 64 - most.leading_zeros(),
+            width: edition.width_for(most),
+            edition,
         }
     }
 
@@ -39,7 +77,10 @@ impl Plan {
         if self.width == 0 {
             return;
         }
-        if self.divisor == 1 {
+        if self.edition == Edition::Lucene {
+            let stored = |value: &i64| value.abs_diff(self.smallest) / self.divisor;
+            lucene::pack(out, self.width, values.iter().map(stored));
+        } else if self.divisor == 1 {
             pack(out, self.width, values, |v| v.abs_diff(self.smallest));
         } else {
             pack(out, self.width, values, |v| {
@@ -91,9 +132,19 @@ fn pack(out: &mut [u8], width: u32, values: &[i64], stored: impl Fn(i64) -> u64)
     }
 }
 
-/// Stored number `i`.
+/// Stored number `i` of a column.
 #[inline]
-pub(crate) fn fetch(section: &[u8], width: u32, i: usize) -> u64 {
+pub(crate) fn stored(column: &Column, section: &[u8], i: usize) -> u64 {
+    let width = column.width as u32;
+    match column.edition {
+        2 => lucene::fetch(section, width, i),
+        _ => fetch(section, width, i),
+    }
+}
+
+/// Stored number `i`, high bit first.
+#[inline]
+fn fetch(section: &[u8], width: u32, i: usize) -> u64 {
     if width == 0 {
         return 0;
     }
@@ -121,13 +172,13 @@ pub(crate) fn value_of(column: &Column, stored: u64) -> Option<i64> {
 
 /// All values, of a section known to be sound.
 pub(crate) fn read(column: &Column, section: &[u8], values: &mut [i64]) {
-    let (smallest, width) = (column.smallest(), column.width as u32);
-    if width == 0 {
+    let smallest = column.smallest();
+    if column.width == 0 {
         values.fill(smallest);
         return;
     }
     for (i, value) in values.iter_mut().enumerate() {
-        let offset = column.divisor.wrapping_mul(fetch(section, width, i));
+        let offset = column.divisor.wrapping_mul(stored(column, section, i));
         *value = smallest.wrapping_add_unsigned(offset);
     }
 }
@@ -136,22 +187,30 @@ pub(crate) fn read(column: &Column, section: &[u8], values: &mut [i64]) {
 /// makes of the values that it stands for.
 pub(crate) fn sound(column: &Column, section: &[u8]) -> bool {
     let (count, width) = (column.count as usize, column.width as u32);
+    let Some(edition) = Edition::numbered(column.edition) else {
+        return false;
+    };
     if width == 0 {
         // All values are equal, or there are none.
         return column.divisor == 1 && (count > 0 || column.smallest_number == 0);
     }
+    if count == 0 {
+        return false;
+    }
     let spare = section.len() * 8 - count * width as usize;
-    let spare_clear = section
-        .last()
-        .is_none_or(|last| last & ((1 << spare) - 1) == 0);
+    let spare_bits = match edition {
+        Edition::Plain => (1 << spare) - 1,
+        Edition::Lucene => !(0xFF_u8 >> spare),
+    };
+    let spare_clear = section.last().is_none_or(|last| last & spare_bits == 0);
     // A value that wraps is above the greatest one that fits: `value_of` tells below.
     let smallest = column.smallest();
     let value = |stored| smallest.wrapping_add_unsigned(column.divisor.wrapping_mul(stored));
-    let first = value(fetch(section, width, 0));
+    let first = value(stored(column, section, 0));
     let (mut low, mut high) = (u64::MAX, 0);
     let mut divisor = 0;
     for i in 0..count {
-        let stored = fetch(section, width, i);
+        let stored = stored(column, section, i);
         low = low.min(stored);
         high = high.max(stored);
         if divisor != 1 {
@@ -160,7 +219,7 @@ pub(crate) fn sound(column: &Column, section: &[u8]) -> bool {
     }
     spare_clear
         && low == 0
-        && high >> (width - 1) == 1
+        && edition.width_for(high) == width
         && value_of(column, high).is_some()
         && divisor == column.divisor
 }

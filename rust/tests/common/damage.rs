@@ -2,7 +2,7 @@
 
 use signalfern::{Refusal, MAX_ID};
 
-use super::{few_ids, ids_of, pages, same, values_of_width, Random, POWERS};
+use super::{few_ids, ids_of, pages, same, values_of_width, Random, EDITIONS, POWERS};
 
 /// How often each refusal came; 0 is for accepted bytes.
 #[derive(Default)]
@@ -19,8 +19,10 @@ impl Tally {
             self.count(read.as_ref().err().copied());
             if let Ok((ids, values)) = read {
                 // Accepted bytes are the column of what is read.
-                let power = same::open(bytes).unwrap().power() as u32;
-                assert!(signalfern::write_to_vec(&ids, &values, power).unwrap() == bytes);
+                let column = same::open(bytes).unwrap();
+                let (edition, power) = (column.edition(), column.power() as u32);
+                let again = signalfern::write_to_vec(&ids, &values, edition, power);
+                assert!(again.unwrap() == bytes);
             }
             assert_eq!(same::walk(bytes).err(), checked.err());
         }
@@ -47,18 +49,23 @@ impl Tally {
     }
 }
 
+/// Columns of each edition.
 pub fn small_columns(random: &mut Random) -> Vec<Vec<u8>> {
-    let mut columns = vec![
-        signalfern::write_to_vec(&[], &[], 9).unwrap(),
-        signalfern::write_to_vec(&[0, 2, 7], &[150, 140, 135], 9).unwrap(),
-        signalfern::write_to_vec(&[65_536], &[-1], 0).unwrap(),
-        signalfern::write_to_vec(&[1, 2], &[i64::MIN, i64::MAX], 7).unwrap(),
-    ];
-    for _ in 0..12 {
+    let mut columns = Vec::new();
+    let mut add = |ids: &[u32], values: &[i64], edition, power| {
+        columns.push(signalfern::write_to_vec(ids, values, edition, power).unwrap());
+    };
+    for edition in EDITIONS {
+        add(&[], &[], edition, 9);
+        add(&[0, 2, 7], &[150, 140, 135], edition, 9);
+        add(&[65_536], &[-1], edition, 0);
+        add(&[1, 2], &[i64::MIN, i64::MAX], edition, 7);
+    }
+    for round in 0..16 {
         let ids = few_ids(random, 8);
         let width = random.below(65) as u32;
         let values = values_of_width(random, ids.len(), width);
-        columns.push(signalfern::write_to_vec(&ids, &values, random.pick(&POWERS)).unwrap());
+        add(&ids, &values, EDITIONS[round % 2], random.pick(&POWERS));
     }
     columns.retain(|column| column.len() < 400);
     columns
@@ -88,8 +95,9 @@ pub fn large_columns(random: &mut Random) -> Vec<Vec<u8>> {
     for blocks in lists {
         let ids = ids_of(random, blocks);
         let values = values_of_width(random, ids.len(), 3);
-        for power in [0, random.pick(&POWERS[1..])] {
-            columns.push(signalfern::write_to_vec(&ids, &values, power).unwrap());
+        // Three bits in edition 1, four in edition 2.
+        for (edition, power) in EDITIONS.into_iter().zip([0, random.pick(&POWERS[1..])]) {
+            columns.push(signalfern::write_to_vec(&ids, &values, edition, power).unwrap());
         }
     }
     columns

@@ -10,6 +10,8 @@ pub mod parts;
 pub mod same;
 pub mod tool;
 
+use signalfern::Edition;
+
 /// A small generator (xorshift with a multiplied output), so that every run tests the same inputs.
 pub struct Random(u64);
 
@@ -37,6 +39,12 @@ impl Random {
         self.below(chances) == 0
     }
 }
+
+/// The editions.
+pub const EDITIONS: [Edition; 2] = [Edition::Plain, Edition::Lucene];
+
+/// The widths of edition 2 (document 02, [6]), without 0.
+pub const LUCENE_WIDTHS: [u32; 14] = [1, 2, 4, 8, 12, 16, 20, 24, 28, 32, 40, 48, 56, 64];
 
 /// The allowed rank powers.
 pub const POWERS: [u32; 10] = [0, 7, 8, 9, 10, 11, 12, 13, 14, 15];

@@ -1,5 +1,7 @@
 //! A column taken apart, to be put together again with one thing changed.
 
+use super::LUCENE_WIDTHS;
+
 /// The header's nine numbers in order.
 pub const EDITION: usize = 0;
 pub const COUNT: usize = 1;
@@ -86,22 +88,39 @@ impl Parts {
         parts.bytes()
     }
 
+    /// The weights of bit j of the value section, as powers of two: in its byte, and in its number.
+    /// Edition 1 has the high bit first, edition 2 the low bit.
+    fn weights(&self, j: usize, width: usize) -> (usize, usize) {
+        match self.numbers[EDITION] {
+            1 => (7 - j % 8, width - 1 - j % width),
+            _ => (j % 8, j % width),
+        }
+    }
+
     /// The stored numbers of a sound column, taken bit by bit.
     pub fn stored(&self) -> Vec<u64> {
-        let width = self.numbers[WIDTH] as usize;
-        let bit = |j: usize| u64::from(self.values[j / 8] >> (7 - j % 8) & 1);
-        let number = |i: usize| (i * width..(i + 1) * width).fold(0, |sum, j| sum << 1 | bit(j));
-        (0..self.numbers[COUNT] as usize).map(number).collect()
+        let (count, width) = (self.numbers[COUNT] as usize, self.numbers[WIDTH] as usize);
+        let mut stored = vec![0; count];
+        for j in 0..count * width {
+            let (in_byte, in_number) = self.weights(j, width);
+            stored[j / width] |= u64::from(self.values[j / 8] >> in_byte & 1) << in_number;
+        }
+        stored
     }
 
     /// Puts other stored numbers, as many, at the least width that takes them.
     pub fn store(&mut self, stored: &[u64]) {
         let most = stored.iter().fold(0, |most, &number| most.max(number));
-        let width = (u64::BITS - most.leading_zeros()) as usize;
+        let bits = u64::BITS - most.leading_zeros();
+        let width = match self.numbers[EDITION] {
+            2 if bits > 0 => LUCENE_WIDTHS.into_iter().find(|&it| it >= bits).unwrap(),
+            _ => bits,
+        } as usize;
         self.values = vec![0; (stored.len() * width).div_ceil(8)];
         for j in 0..stored.len() * width {
-            let bit = stored[j / width] >> (width - 1 - j % width) & 1;
-            self.values[j / 8] |= (bit as u8) << (7 - j % 8);
+            let (in_byte, in_number) = self.weights(j, width);
+            let bit = stored[j / width] >> in_number & 1;
+            self.values[j / 8] |= (bit as u8) << in_byte;
         }
         self.numbers[WIDTH] = width as u64;
         self.numbers[VALUE_BYTES] = self.values.len() as u64;

@@ -1,6 +1,6 @@
 //! Each call of the library beside the reference, on buffers filled beforehand.
 
-use signalfern::{Checked, Column, Cursor, Header, Refusal};
+use signalfern::{Checked, Column, Cursor, Edition, Header, Refusal};
 use signalfern_reference::{self as reference, Answer, Candidate};
 
 fn numbers(refusal: Refusal) -> (u64, u64) {
@@ -18,11 +18,18 @@ pub fn filling(len: usize) -> Vec<u8> {
 
 /// Writes to `room` bytes; gives the column if there was one.
 #[track_caller]
-pub fn write(ids: &[u32], values: &[i64], power: u32, room: usize) -> Result<Vec<u8>, Refusal> {
+pub fn write(
+    ids: &[u32],
+    values: &[i64],
+    edition: Edition,
+    power: u32,
+    room: usize,
+) -> Result<Vec<u8>, Refusal> {
     let before = filling(room);
     let (mut ours, mut theirs) = (before.clone(), before.clone());
-    let result = signalfern::write(ids, values, power, &mut ours);
-    let expected = plain(reference::write(ids, values, power, &mut theirs));
+    let result = signalfern::write(ids, values, edition, power, &mut ours);
+    let number = edition.number();
+    let expected = plain(reference::write(ids, values, number, power, &mut theirs));
     assert_eq!(result.map(|len| len as u64).map_err(numbers), expected);
     let changed = result.unwrap_or(0);
     assert!(ours[..changed] == theirs[..changed], "other bytes");
@@ -36,13 +43,13 @@ pub fn write(ids: &[u32], values: &[i64], power: u32, room: usize) -> Result<Vec
 
 /// Writes to just the room that is needed, and to one byte less.
 #[track_caller]
-pub fn write_exactly(ids: &[u32], values: &[i64], power: u32) -> Vec<u8> {
-    let Err(Refusal::Room { needed }) = write(ids, values, power, 0) else {
+pub fn write_exactly(ids: &[u32], values: &[i64], edition: Edition, power: u32) -> Vec<u8> {
+    let Err(Refusal::Room { needed }) = write(ids, values, edition, power, 0) else {
         panic!("a list of pairs that can be written");
     };
-    let short = write(ids, values, power, needed - 1);
+    let short = write(ids, values, edition, power, needed - 1);
     assert_eq!(short, Err(Refusal::Room { needed }));
-    write(ids, values, power, needed).expect("room for the column")
+    write(ids, values, edition, power, needed).expect("room for the column")
 }
 
 #[track_caller]
@@ -133,6 +140,8 @@ pub fn open(bytes: &[u8]) -> Result<Column<'_>, Refusal> {
 #[track_caller]
 fn by_methods(column: Column, bytes: &[u8]) {
     let header = column.header();
+    assert_eq!(u64::from(column.edition().number()), header.edition);
+    assert_eq!(Edition::from_number(header.edition), Some(column.edition()));
     assert_eq!(column.count(), header.count);
     assert_eq!(column.power(), header.power);
     assert_eq!(column.id_bytes(), header.id_bytes);

@@ -6,6 +6,8 @@ use std::os::unix::process::ExitStatusExt;
 use std::path::{Path, PathBuf};
 use std::process::{Command, Output, Stdio};
 
+use signalfern::Edition;
+
 /// What a run of the tool left behind.
 pub struct Ran {
     /// The exit status; for a signal, 128 and its number, as a shell has it.
@@ -96,7 +98,10 @@ impl Folder {
 
     /// A column of these pairs.
     pub fn column(&self, name: &str, ids: &[u32], values: &[i64]) -> String {
-        self.put(name, signalfern::write_to_vec(ids, values, 9).unwrap())
+        self.put(
+            name,
+            signalfern::write_to_vec(ids, values, Edition::Plain, 9).unwrap(),
+        )
     }
 
     pub fn bytes(&self, name: &str) -> Vec<u8> {

@@ -6,11 +6,17 @@ use Rattle.column.proofs.edition_in.Tie as tie
 
 returns : tie.Need-returns
 unfolding numberOf editions editionIn
-returns c = rw (eq-eqb (c .before .args .number) 1 (omega arith))
+returns c = rw (eq-eqb (c .before .args .number) 1 (c .match .keys1))
 
 returns-2 : tie.Need-returns-2
 unfolding numberOf editions editionIn
-returns-2 c = rw (ne-eqb (c .before .args .number) 1 (λ e. omega arith))
+returns-2 c = rw (c .match .keys2)
+
+returns-3 : tie.Need-returns-3
+unfolding numberOf editions editionIn
+returns-3 c =
+    let n = c .before .args .number in
+    rw (ne-eqb n 1 (λ e. omega (arith, c .match .rest, e)), ne-eqb n 2 (λ e. omega (arith, c .match .rest, e)))
 
 pub edition-in-spec : {M : Type 1} → statement M
-edition-in-spec = tie.close (tie.spec returns returns-2)
+edition-in-spec = tie.close (tie.spec returns returns-2 returns-3)

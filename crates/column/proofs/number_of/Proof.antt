@@ -1,12 +1,16 @@
 -- `column::number_of` meets its contract. Assumes nothing.
+use Rattle.format.specs.Kit.{needs}
 use Rattle.format.specs.Editions.{numberOf}
-use Rattle.values.proofs.One.{is-plain}
 use Rattle.column.proofs.number_of.Statement.{statement}
 use Rattle.column.proofs.number_of.Tie as tie
 
 returns : tie.Need-returns
 unfolding numberOf
-returns c = rw (is-plain (c .args .edition))
+returns c = rw (c .enum-told .given .1)
+
+returns-2 : tie.Need-returns-2
+unfolding numberOf
+returns-2 c = rw (c .enum-told2 .given .1)
 
 pub number-of-spec : {M : Type 1} → statement M
-number-of-spec = tie.close (tie.spec returns)
+number-of-spec = tie.close (tie.spec (λ c. search needs) (λ c. search needs) returns returns-2)

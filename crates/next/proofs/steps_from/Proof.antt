@@ -32,25 +32,26 @@ left c =
     rw (asked-id col (a .target) (q .result) (q .ensures .0)) at
     (c .walk .ensures .left (a .bytes .now) col (asked-of col (a .target) (q .result) (q .ensures .0)) (id-part (parted (c .before .before .before))))
 
-left-at : (c : tie.After-value-at) →
-    let a = c .before .before .before .before .before .before .before .before .before .before .before .before .before .args in
-    let v = c .before .before .before .before .met .given .0 in
+left-at : (c : tie.After-value-of) →
+    let a = c .before .before .before .before .before .before .before .before .before .before .before .before .before .before .args in
+    let v = c .before .before .before .before .before .met .given .0 in
     nextSteps (a .bytes .now) (columnOf (a .column)) (a .target)
     ≡ reached (a .bytes .now) (columnOf (a .column)) (Me.Met.At (v .0) (v .1 .0)) (done noCandidate)
 left-at c =
-    let a = c .before .before .before .before .before .before .before .before .before .before .before .before .before .args in
-    sym (left (c .before .before .before .before .before .before))
-    ∙ ap (λ y. reached (a .bytes .now) (columnOf (a .column)) y (done noCandidate)) (c .before .before .before .before .met .given .1)
+    let a = c .before .before .before .before .before .before .before .before .before .before .before .before .before .before .args in
+    sym (left (c .before .before .before .before .before .before .before))
+    ∙ ap (λ y. reached (a .bytes .now) (columnOf (a .column)) y (done noCandidate)) (c .before .before .before .before .before .met .given .1)
 
-value-read : (c : tie.After-value-at) →
-    let a = c .before .before .before .before .before .before .before .before .before .before .before .before .before .args in
-    fetchedOf (c .value-at .result) ≡ valueOf (a .bytes .now) (columnOf (a .column)) (c .before .before .before .before .met .given .0 .1 .0)
+value-read : (c : tie.After-value-of) →
+    let a = c .before .before .before .before .before .before .before .before .before .before .before .before .before .before .args in
+    fetchedOf (c .value-of .result) ≡ valueOf (a .bytes .now) (columnOf (a .column)) (c .before .before .before .before .before .met .given .0 .1 .0)
 unfolding valueOf valueIn
 value-read c =
-    let q = c .before .before .before .before .before .before .before .before .before in
+    let q = c .before .before .before .before .before .before .before .before .before .before in
     let h = columnOf (q .before .before .before .before .args .column) .head in
-    let o = c .before .before .before .before .met .given .0 .1 .0 in
-    c .value-at .ensures ∙ ap (λ (l : List ℕ). codec (h .edition) .value (h .count) (h .fields) l o) (value-part (parted q))
+    let o = c .before .before .before .before .before .met .given .0 .1 .0 in
+    c .value-of .ensures ∙ sym (c .before .stored-at .ensures .1)
+    ∙ ap (λ (l : List ℕ). codec (h .edition) .value (h .count) (h .fields) l o) (value-part (parted q))
 
 walk-requires : tie.Need-walk-requires
 walk-requires c κs =
@@ -73,8 +74,8 @@ returns-2 c =
     sum-failed (c .no-more2 .result) (c .no-more2 .ensures)
     ∙ not-reached _ _ (w .walk .result) (c .before .before .match .keys2) (c .before .match2 .keys2) (done noCandidate) ∙ left w
 
-value-at-requires : tie.Need-value-at-requires
-value-at-requires c κs =
+stored-at-requires : tie.Need-stored-at-requires
+stored-at-requires c κs =
     let s = c .before .before .before .before .before .before .before .before .before .before .before .before in
     let h = columnOf (s .args .column) .head in
     let p = c .before .before .before in
@@ -88,17 +89,17 @@ returns-3 : tie.Need-returns-3
 returns-3 c =
     let v = c .before .before .before in
     sum-failed (c .no-more3 .result) (c .no-more3 .ensures)
-    ∙ sym (left-at v ∙ value-outside _ _ (v .value-at .result) (value-read v) (c .before .enum-told2 .given .1))
+    ∙ sym (left-at v ∙ value-outside _ _ (v .value-of .result) (value-read v) (c .before .enum-told2 .given .1))
 
 returns-4 : tie.Need-returns-4
 returns-4 c =
     let v = c .before .before .before in
-    let h = columnOf (v .before .before .before .before .before .before .before .before .before .before .before .before .before .args .column) .head in
+    let h = columnOf (v .before .before .before .before .before .before .before .before .before .before .before .before .before .before .args .column) .head in
     let z = c .before .value .given .0 .0 in
     let e = c .before .value .given .1 in
-    let f = lawful (h .edition) .fit (h .count) (h .fields) _ _ z (sym (v .value-at .ensures) ∙ ap fetchedOf e) in
+    let f = lawful (h .edition) .fit (h .count) (h .fields) _ _ z (v .before .stored-at .ensures .1 ∙ sym (v .value-of .ensures) ∙ ap fetchedOf e) in
     rw (toZ-ofZ {w = w64} {z = z} (record { sfits = fits-size z f }))
-    (sym (left-at v ∙ value-found _ _ (v .value-at .result) (value-read v) z e))
+    (sym (left-at v ∙ value-found _ _ (v .value-of .result) (value-read v) z e))
 
 pub steps-from-spec : {M : Type 1} → statement M
 steps-from-spec =
@@ -115,7 +116,8 @@ steps-from-spec =
     (λ c. omega (arith, parted (c .before .before .before .before .before .before) .whole))
     (λ c. omega (arith, parted (c .before .before .before .before .before .before) .whole))
     (λ c. search needs)
-    value-at-requires
+    stored-at-requires
+    (λ c κs. c .stored-at .ensures .0)
     (λ c. search needs) (λ c. search needs) (λ c κs. search needs)
     returns-3
     returns-4)

@@ -21,17 +21,17 @@ parted : (c : tie.After-size2) → let a = c .before .before .before .before .ar
     Parted (a .bytes .now) (columnOf (a .column)) (c .before .size .result) (c .size2 .result)
 parted c = record { starts = c .before .size .ensures; ids = c .size2 .ensures; whole = eqb-true _ _ (c .before .before .before .before .pre .1) }
 
-value-read : (c : tie.After-value-at) → let a = c .before .before .before .before .before .before .before .args in
-    fetchedOf (c .value-at .result) ≡ valueOf (a .bytes .now) (columnOf (a .column)) (a .ordinal)
+value-read : (c : tie.After-value-of) → let a = c .before .before .before .before .before .before .before .before .args in
+    fetchedOf (c .value-of .result) ≡ valueOf (a .bytes .now) (columnOf (a .column)) (a .ordinal)
 unfolding valueOf valueIn
 value-read c =
-    let a = c .before .before .before .before .before .before .before .args in
+    let a = c .before .before .before .before .before .before .before .before .args in
     let h = columnOf (a .column) .head in
-    c .value-at .ensures
-    ∙ ap (λ (l : List ℕ). codec (h .edition) .value (h .count) (h .fields) l (a .ordinal)) (value-part (parted (c .before .before .before)))
+    c .value-of .ensures ∙ sym (c .before .stored-at .ensures .1)
+    ∙ ap (λ (l : List ℕ). codec (h .edition) .value (h .count) (h .fields) l (a .ordinal)) (value-part (parted (c .before .before .before .before)))
 
-value-at-requires : tie.Need-value-at-requires
-value-at-requires c κs =
+stored-at-requires : tie.Need-stored-at-requires
+stored-at-requires c κs =
     let s = c .before .before .before .before .before .before in
     let h = columnOf (s .args .column) .head in
     let f = head-facts h (s .pre .0) in (
@@ -43,18 +43,18 @@ value-at-requires c κs =
 returns : tie.Need-returns
 returns c =
     let v = c .before .before .before in
-    subst (λ (x : Outcome Look). Holds x (c .refused .result)) (sym (value-outside _ _ (v .value-at .result) (value-read v) (c .before .enum-told .given .1)))
+    subst (λ (x : Outcome Look). Holds x (c .refused .result)) (sym (value-outside _ _ (v .value-of .result) (value-read v) (c .before .enum-told .given .1)))
     (c .refused .ensures 0)
 
 returns-2 : tie.Need-returns-2
 unfolding placeOrdinal placeValue placeKind placeWords
 returns-2 c =
     let v = c .before .before .before in
-    let h = columnOf (v .before .before .before .before .before .before .before .args .column) .head in
+    let h = columnOf (v .before .before .before .before .before .before .before .before .args .column) .head in
     let z = c .before .value .given .0 .0 in
     let e = c .before .value .given .1 in
-    let f = lawful (h .edition) .fit (h .count) (h .fields) _ _ z (sym (v .value-at .ensures) ∙ ap fetchedOf e) in
-    let q = sym (value-found _ _ (v .value-at .result) (value-read v) z e) in
+    let f = lawful (h .edition) .fit (h .count) (h .fields) _ _ z (v .before .stored-at .ensures .1 ∙ sym (v .value-of .ensures) ∙ ap fetchedOf e) in
+    let q = sym (value-found _ _ (v .value-of .result) (value-read v) z e) in
     record {
       ordinal = ap placeOrdinal q;
       value = toZ-ofZ {w = w64} {z = z} (record { sfits = fits-size z f }) ∙ ap placeValue q;
@@ -70,7 +70,8 @@ valued-spec =
     (λ c. omega (arith, parted c .whole))
     (λ c. omega (arith, parted c .whole))
     (λ c. search needs)
-    value-at-requires
+    stored-at-requires
+    (λ c κs. c .stored-at .ensures .0)
     (λ c. search needs) (λ c. search needs) (λ c κs. search needs)
     returns
     returns-2)

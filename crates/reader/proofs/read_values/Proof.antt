@@ -43,7 +43,7 @@ fill-requires c κs =
     let b = s .args .bytes .now in
     let o = columnOf (s .args .c) in
     let w = s .pre .0 in
-    (values-asked b o (bytes-fit k) w _ (part r), s .pre .1, (w .pairs .values, values-there b o (bytes-fit k) w _ (part r)))
+    (column s .facts .count, values-asked b o (bytes-fit k) w _ (part r), s .pre .1, (w .pairs .values, values-there b o (bytes-fit k) w _ (part r)))
 
 returns : tie.Need-returns
 returns c =

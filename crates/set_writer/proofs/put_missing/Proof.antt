@@ -18,8 +18,7 @@ abbrev μ-loop : tie.MeasureT-loop
 μ-loop part out₀ at x₀ i₀ j₀ out x i j = length part - j
 
 -- all missing places have room
-whole-fits : (s : tie.Start Inv-loop μ-loop)
-    → s .args .at + length (left-of (s .args .part .now) 0 0) ≤ length (s .args .out .now)
+whole-fits : (s : tie.Start Inv-loop μ-loop) → s .args .at + length (left-of (s .args .part .now) 0 0) ≤ length (s .args .out .now)
 whole-fits s = omega (arith, s .pre .1, length-shorts-bytes (missing 65536 0 (placesFrom (s .args .part .now) 0)))
 
 -- The next place, y: it is not below x, what is left begins with the span up to it, and that span has room.
@@ -73,7 +72,15 @@ put-span-requires-2 c κs =
     let s = c .before .before .before .before .before in
     let xs = s .args .part .now in
     let e = left-last xs (l .x) (l .j) (omega arith) in (
-      omega (arith, s .pre .1, length-shorts-bytes (missing 65536 0 (placesFrom xs 0)), l .inv .1 .next, l .inv .1 .kept, ap length e, span-long (65536 - l .x) (l .x)),
+      omega (
+        arith,
+        s .pre .1,
+        length-shorts-bytes (missing 65536 0 (placesFrom xs 0)),
+        l .inv .1 .next,
+        l .inv .1 .kept,
+        ap length e,
+        span-long (65536 - l .x) (l .x),
+      ),
       omega (arith, l .inv .3),
     )
 

@@ -1,15 +1,25 @@
 -- `values::check` meets its contract. Assumes nothing.
+use Rattle.format.specs.Kit.{needs}
+use Rattle.format.specs.Editions.{codec}
 use Rattle.values.specs.Edition.{tests}
-use Rattle.values.proofs.One.{is-plain}
 use Rattle.values.proofs.check.Statement.{statement}
 use Rattle.values.proofs.check.Tie as tie
 
 values-ok-requires : tie.Need-values-ok-requires
-values-ok-requires c κs = let s = c .before in rw (is-plain (s .args .edition)) at (s .pre)
+unfolding codec
+values-ok-requires c κs = rw (c .enum-told .given .1) at (c .before .before .before .pre)
+
+values-ok-requires-2 : tie.Need-values-ok-requires-2
+unfolding codec
+values-ok-requires-2 c κs = rw (c .enum-told2 .given .1) at (c .before .before .before .pre)
 
 returns : tie.Need-returns
-unfolding tests
-returns c = rw (is-plain (c .before .before .args .edition)) (c .values-ok .ensures)
+unfolding codec tests
+returns c = rw (c .before .enum-told .given .1) (c .values-ok .ensures)
+
+returns-2 : tie.Need-returns-2
+unfolding codec tests
+returns-2 c = rw (c .before .enum-told2 .given .1) (c .values-ok2 .ensures)
 
 pub check-spec : {M : Type 1} → statement M
-check-spec = tie.close (tie.spec values-ok-requires returns)
+check-spec = tie.close (tie.spec (λ c. search needs) values-ok-requires (λ c. search needs) values-ok-requires-2 returns returns-2)

@@ -1,14 +1,33 @@
 -- `values::fill` meets its contract. Assumes nothing.
-use Rattle.values.proofs.One.{is-plain}
 use Rattle.format.specs.Kit.{needs}
+use Rattle.format.specs.Editions.{codec}
 use Rattle.values.proofs.fill.Statement.{statement}
 use Rattle.values.proofs.fill.Tie as tie
 
 fill-requires : tie.Need-fill-requires
-fill-requires c κs = let s = c .before .before in rw (is-plain (s .args .edition)) at (s .pre)
+unfolding codec
+fill-requires c κs = rw (c .before .enum-told .given .1) at (c .before .before .before .before .pre)
+
+fill-requires-2 : tie.Need-fill-requires-2
+unfolding codec
+fill-requires-2 c κs = rw (c .before .enum-told2 .given .1) at (c .before .before .before .before .pre)
 
 returns : tie.Need-returns
-returns c = rw (is-plain (c .before .before .before .before .args .edition)) (c .before .fill .ensures)
+unfolding codec
+returns c = rw (c .before .before .before .enum-told .given .1) (c .before .fill .ensures)
+
+returns-2 : tie.Need-returns-2
+unfolding codec
+returns-2 c = rw (c .before .before .before .enum-told2 .given .1) (c .before .fill2 .ensures)
 
 pub fill-spec : {M : Type 1} → statement M
-fill-spec = tie.close (tie.spec fill-requires (λ c. search needs) returns)
+fill-spec =
+    tie.close (tie.spec
+    (λ c. search needs)
+    fill-requires
+    (λ c. search needs)
+    fill-requires-2
+    (λ c. search needs)
+    returns
+    (λ c. search needs)
+    returns-2)

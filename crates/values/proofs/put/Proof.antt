@@ -1,14 +1,33 @@
 -- `values::put` meets its contract. Assumes nothing.
-use Rattle.values.proofs.One.{is-plain}
 use Rattle.format.specs.Kit.{needs}
+use Rattle.format.specs.Editions.{codec}
 use Rattle.values.proofs.put.Statement.{statement}
 use Rattle.values.proofs.put.Tie as tie
 
 put-requires : tie.Need-put-requires
-put-requires c κs = let s = c .before .before in rw (is-plain (s .args .edition)) at (s .pre)
+unfolding codec
+put-requires c κs = rw (c .before .enum-told .given .1) at (c .before .before .before .before .pre)
+
+put-requires-2 : tie.Need-put-requires-2
+unfolding codec
+put-requires-2 c κs = rw (c .before .enum-told2 .given .1) at (c .before .before .before .before .pre)
 
 returns : tie.Need-returns
-returns c = rw (is-plain (c .before .before .before .before .before .args .edition)) (c .before .before .put .ensures)
+unfolding codec
+returns c = rw (c .before .before .before .before .enum-told .given .1) (c .before .before .put .ensures)
+
+returns-2 : tie.Need-returns-2
+unfolding codec
+returns-2 c = rw (c .before .before .before .before .enum-told2 .given .1) (c .before .before .put2 .ensures)
 
 pub put-spec : {M : Type 1} → statement M
-put-spec = tie.close (tie.spec put-requires (λ c. search needs) returns)
+put-spec =
+    tie.close (tie.spec
+    (λ c. search needs)
+    put-requires
+    (λ c. search needs)
+    put-requires-2
+    (λ c. search needs)
+    returns
+    (λ c. search needs)
+    returns-2)

@@ -1,11 +1,16 @@
 -- `values::rules` meets its contract. Assumes nothing.
-use Rattle.values.proofs.One.{is-plain}
 use Rattle.format.specs.Kit.{needs}
+use Rattle.format.specs.Editions.{codec}
 use Rattle.values.proofs.rules.Statement.{statement}
 use Rattle.values.proofs.rules.Tie as tie
 
 returns : tie.Need-returns
-returns c = rw (is-plain (c .before .args .edition)) (c .rules .ensures)
+unfolding codec
+returns c = rw (c .before .enum-told .given .1) (c .rules .ensures)
+
+returns-2 : tie.Need-returns-2
+unfolding codec
+returns-2 c = rw (c .before .enum-told2 .given .1) (c .rules2 .ensures)
 
 pub rules-spec : {M : Type 1} → statement M
-rules-spec = tie.close (tie.spec (λ c κs. search needs) returns)
+rules-spec = tie.close (tie.spec (λ c. search needs) (λ c κs. search needs) (λ c. search needs) (λ c κs. search needs) returns returns-2)

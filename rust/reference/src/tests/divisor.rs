@@ -7,8 +7,14 @@ use super::*;
 fn fields(values: &[i64]) -> (u64, u64) {
     let ids: Vec<u32> = (0..values.len() as u32).collect();
     let mut out = [0; 200];
-    let len = write(&ids, values, 9, &mut out).expect("room for a few values");
-    let column = open(&out[..len as usize]).expect("a written column opens");
+    let mut of_edition = |edition| {
+        let len = write(&ids, values, edition, 9, &mut out).expect("room for a few values");
+        open(&out[..len as usize]).expect("a written column opens")
+    };
+    let (column, packed) = (of_edition(1), of_edition(2));
+    // Edition 2 has the same divisor, and the next width that it knows.
+    assert_eq!(packed.divisor, column.divisor);
+    assert!(packed.width >= column.width);
     (column.divisor, column.width)
 }
 
@@ -40,7 +46,13 @@ fn the_greatest_that_divides_all_differences() {
 }
 
 /// A column with any fields and stored bits, and ids 0, 1, ...
-fn column(count: u8, width: u8, smallest: i128, divisor: u128, section: &[u8]) -> Vec<u8> {
+fn column(
+    edition: u8,
+    [count, width]: [u8; 2],
+    smallest: i128,
+    divisor: u128,
+    section: u8,
+) -> Vec<u8> {
     let mut ids = Vec::new();
     if count > 0 {
         ids.extend([0, 0, count - 1, 0]);
@@ -49,7 +61,7 @@ fn column(count: u8, width: u8, smallest: i128, divisor: u128, section: &[u8]) -
     ids.extend([0xFF, 0x7F, 0, 0, 0xFF, 0xFF]);
     ids.resize(ids.len() + if count == 0 { 8 } else { 0 }, 0);
     let jumps = u8::from(count == 0);
-    let mut out = vec![1, count, 9, ids.len() as u8, jumps, width];
+    let mut out = vec![edition, count, 9, ids.len() as u8, jumps, width];
     let negative = smallest < 0;
     let least = if negative {
         -2 * smallest - 1
@@ -58,15 +70,24 @@ fn column(count: u8, width: u8, smallest: i128, divisor: u128, section: &[u8]) -
     };
     put_number(&mut out, least as u128);
     put_number(&mut out, divisor);
-    out.push(section.len() as u8);
+    out.push(1);
     out.extend(ids);
-    out.extend(section);
+    out.push(section);
     out
 }
 
 /// The values that these bits stand for, if each fits in 64 bits.
-fn values(count: u8, width: u8, smallest: i128, divisor: u128, section: u8) -> Option<Vec<i64>> {
-    let stored = |i: u8| u32::from(section) << (i * width) >> (8 - width) & ((1 << width) - 1);
+fn values(
+    edition: u8,
+    [count, width]: [u8; 2],
+    smallest: i128,
+    divisor: u128,
+    section: u8,
+) -> Option<Vec<i64>> {
+    let stored = |i: u8| match edition {
+        1 => u32::from(section) << (i * width) >> (8 - width) & ((1 << width) - 1),
+        _ => u32::from(section) >> (i * width) & ((1 << width) - 1),
+    };
     let value = |i: u8| smallest + divisor as i128 * i128::from(stored(i));
     (0..count).map(|i| i64::try_from(value(i)).ok()).collect()
 }
@@ -77,14 +98,24 @@ fn the_check_takes_what_the_plain_writer_gives() {
     let mut taken = 0;
     for smallest in [0, -9, 6, greatest - 4, -greatest - 1] {
         for divisor in [1, 2, 3, 7, 1 << 63, u64::MAX.into()] {
-            for (count, width) in [(1, 1), (2, 1), (2, 2), (2, 4), (3, 1), (3, 2), (4, 2)] {
-                for section in 0..=255 {
-                    let bytes = column(count, width, smallest, divisor, &[section]);
-                    let values = values(count, width, smallest, divisor, section);
+            for size in [
+                [1, 1],
+                [2, 1],
+                [2, 2],
+                [2, 4],
+                [3, 1],
+                [3, 2],
+                [4, 2],
+                [1, 8],
+            ] {
+                for (edition, section) in (0..=255).flat_map(|byte| [(1, byte), (2, byte)]) {
+                    let bytes = column(edition, size, smallest, divisor, section);
+                    let values = values(edition, size, smallest, divisor, section);
                     let pairs = values.map(|values| (0..).zip(values).collect());
-                    let sound = pairs.is_some_and(|pairs| plain_column(&pairs, 9) == bytes);
+                    let written = |pairs| plain_column(&pairs, edition.into(), 9);
+                    let sound = pairs.is_some_and(|pairs| written(pairs) == bytes);
                     let expected = match sound {
-                        true => Ok(u64::from(count)),
+                        true => Ok(u64::from(size[0])),
                         false => Err(Refusal::DAMAGED),
                     };
                     assert_eq!(check(&bytes), expected, "{bytes:02X?}");
@@ -93,5 +124,5 @@ fn the_check_takes_what_the_plain_writer_gives() {
             }
         }
     }
-    assert!(taken > 1000, "{taken}");
+    assert!(taken > 2000, "{taken}");
 }

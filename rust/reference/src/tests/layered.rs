@@ -49,8 +49,10 @@ fn as_the_two_lists_have_it() {
     for round in 0..25 {
         let powers = ([0, 7, 9, 15][round % 4], [9, 0, 12][round % 3]);
         let (machine, correction) = (some_pairs(&mut random), some_pairs(&mut random));
-        let machine_bytes = plain_column(&machine, powers.0);
-        let correction_bytes = plain_column(&correction, powers.1);
+        // Each of its own edition.
+        let editions = (EDITIONS[round % 2], EDITIONS[round / 2 % 2]);
+        let machine_bytes = plain_column(&machine, editions.0, powers.0);
+        let correction_bytes = plain_column(&correction, editions.1, powers.1);
         let opened = (open(&machine_bytes), open(&correction_bytes));
         let (Ok(below), Ok(above)) = opened else {
             panic!("written columns open");
@@ -89,8 +91,8 @@ fn as_the_two_lists_have_it() {
 
 #[test]
 fn the_first_that_refuses() {
-    let machine = plain_column(&BTreeMap::from([(0, 150), (2, 140), (7, 135)]), 9);
-    let correction = plain_column(&BTreeMap::from([(2, -1)]), 0);
+    let machine = plain_column(&BTreeMap::from([(0, 150), (2, 140), (7, 135)]), 1, 9);
+    let correction = plain_column(&BTreeMap::from([(2, -1)]), 2, 0);
     // The machine column's bytes are not looked at, where the correction holds the id.
     let found = look_up_layered(&[], &correction, 2);
     assert!(matches!(found, Ok(LayeredAnswer::Found { value: -1, .. })));

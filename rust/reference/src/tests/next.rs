@@ -46,7 +46,8 @@ fn block_by_block_as_id_by_id() {
         if pairs.is_empty() {
             continue;
         }
-        let mut column = plain_column(&pairs, [0, 7, 9, 15][round % 4]);
+        let edition = EDITIONS[round / 4 % 2];
+        let mut column = plain_column(&pairs, edition, [0, 7, 9, 15][round % 4]);
         for _ in 0..6 {
             for _ in 0..4 {
                 let offset = match random.below(3) {
@@ -78,7 +79,7 @@ fn as_the_list_has_it() {
     let mut random = Random(6);
     for round in 0..40 {
         let pairs = some_pairs(&mut random);
-        let column = plain_column(&pairs, [0, 7, 9, 12, 15][round % 5]);
+        let column = plain_column(&pairs, EDITIONS[round % 2], [0, 7, 9, 12, 15][round % 5]);
         let opened = open(&column).expect("a written column opens");
         let ids: Vec<u32> = pairs.keys().copied().collect();
         let values: Vec<i64> = pairs.values().copied().collect();
@@ -102,7 +103,7 @@ fn as_the_list_has_it() {
 fn the_words_of_the_document() {
     // Ids 0, 2 and 7 with 150, 140 and 135, and the last id that there is, with 5.
     let pairs = BTreeMap::from([(0, 150), (2, 140), (7, 135), (MAX_ID, 5)]);
-    let column = plain_column(&pairs, 9);
+    let column = plain_column(&pairs, 1, 9);
     let found = |id, ordinal, value| Ok(Some(Candidate { id, ordinal, value }));
     let mut cursor = 0;
     for (target, answer, after) in [
@@ -120,7 +121,7 @@ fn the_words_of_the_document() {
         assert_eq!(cursor, after, "{target}");
     }
     // None is an answer too.
-    let column = plain_column(&BTreeMap::from([(7, 135)]), 9);
+    let column = plain_column(&BTreeMap::from([(7, 135)]), 2, 9);
     let mut cursor = 0;
     assert_eq!(next(&mut cursor, &column, 8), Ok(None));
     assert_eq!(next(&mut cursor, &column, 7), Err(Refusal::BACK));

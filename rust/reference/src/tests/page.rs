@@ -39,7 +39,8 @@ fn each_place_as_the_single_look_up() {
     for round in 0..25 {
         let pairs = some_pairs(&mut random);
         let listed: Vec<u32> = pairs.keys().copied().collect();
-        let mut column = plain_column(&pairs, [0, 7, 9, 15][round % 4]);
+        let edition = EDITIONS[round / 4 % 2];
+        let mut column = plain_column(&pairs, edition, [0, 7, 9, 15][round % 4]);
         for damaged in [false, true] {
             if damaged {
                 let at = random.below(column.len().min(600) as u64) as usize;
@@ -63,7 +64,7 @@ fn each_place_as_the_single_look_up() {
 
 #[test]
 fn the_words_of_the_request() {
-    let column = plain_column(&BTreeMap::from([(0, 150), (2, 140), (7, 135)]), 9);
+    let column = plain_column(&BTreeMap::from([(0, 150), (2, 140), (7, 135)]), 1, 9);
     let ids = [7, 5, 7, MAX_ID + 1];
     // Found, absent, found again, above the limit; the place after stays.
     let lists = (

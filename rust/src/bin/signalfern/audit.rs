@@ -10,6 +10,7 @@ use crate::column::Asked;
 use crate::failure::Failure;
 use crate::load::Loaded;
 use crate::output::print;
+use crate::packing::Packing;
 use crate::text::{byte_at, counted, is_standard};
 
 pub fn run(mut arguments: Arguments) -> Result<(), Failure> {
@@ -36,12 +37,11 @@ pub fn run(mut arguments: Arguments) -> Result<(), Failure> {
             ..
         }) => {
             let stored = Stored::new(layers.column(layer), layers.values_of(id), ordinal);
+            let lines = stored.and_then(|stored| stored.lines(value));
+            let lines = lines.ok_or_else(|| no_such_value(name(layer), value))?;
             let by = format!("by the {layer} column {}", name(layer));
             print(&format!(
-                "id {id}: value {value}, ordinal {ordinal}, {by}\n{}",
-                stored
-                    .lines(value)
-                    .ok_or_else(|| no_such_value(name(layer), value))?
+                "id {id}: value {value}, ordinal {ordinal}, {by}\n{lines}"
             ))
         }
         Ok(LayeredAnswer::Absent { .. }) => print(&format!("id {id}: in neither column\n")),
@@ -66,27 +66,30 @@ struct Stored<'a> {
     /// Where the section stands in the file.
     start: usize,
     ordinal: u64,
-    /// Its bits, counted from the section's first.
+    /// Its bits, counted from the section's first, and their order.
     bits: Range<usize>,
+    packing: Packing,
 }
 
 impl<'a> Stored<'a> {
-    fn new(column: Column<'a>, section: &'a [u8], ordinal: u64) -> Self {
+    /// None of an edition whose packing the tool does not know.
+    fn new(column: Column<'a>, section: &'a [u8], ordinal: u64) -> Option<Self> {
         let width = column.width() as usize;
         let first = ordinal as usize * width;
-        Self {
+        Some(Self {
             column,
             section,
             start: section.as_ptr() as usize - column.bytes().as_ptr() as usize,
             ordinal,
             bits: first..first + width,
-        }
+            packing: Packing::of(column.edition().number().into())?,
+        })
     }
 
     /// The lines about it; none if its bits do not give the value.
     fn lines(&self, value: i64) -> Option<String> {
         let (smallest, divisor) = (self.column.smallest(), self.column.divisor());
-        let number = self.number();
+        let number = self.packing.number(self.section, self.bits.clone());
         let sum = i128::from(smallest) + i128::from(divisor) * i128::from(number);
         if sum != i128::from(value) {
             return None;
@@ -105,35 +108,9 @@ impl<'a> Stored<'a> {
         for at in first / 8..=(self.bits.end - 1) / 8 {
             let (place, byte) = (byte_at(self.start + at), self.section[at]);
             // Writing to a string cannot fail.
-            let _ = writeln!(out, "  {place}: {byte:02X}  {}", self.marked(at));
+            let marked = self.packing.marked(self.section, at, &self.bits);
+            let _ = writeln!(out, "  {place}: {byte:02X}  {marked}");
         }
         Some(out)
-    }
-
-    /// The number that its bits make, the high bit first.
-    fn number(&self) -> u64 {
-        let bits = self.bits.clone();
-        bits.fold(0, |number, bit| number << 1 | u64::from(self.bit(bit)))
-    }
-
-    fn bit(&self, bit: usize) -> bool {
-        self.section[bit / 8] >> (7 - bit % 8) & 1 == 1
-    }
-
-    /// The bits of a byte of the section, those of this number between [ and ].
-    fn marked(&self, at: usize) -> String {
-        let byte = 8 * at..8 * at + 8;
-        let own = self.bits.start.max(byte.start)..self.bits.end.min(byte.end);
-        let mut out = String::new();
-        for bit in byte {
-            if bit == own.start {
-                out.push('[');
-            }
-            out.push(if self.bit(bit) { '1' } else { '0' });
-            if bit + 1 == own.end {
-                out.push(']');
-            }
-        }
-        out
     }
 }

@@ -40,8 +40,8 @@ pub fn other_kind(start: &[u8]) -> Option<&'static str> {
     if let Some((_, what)) = known {
         return Some(what);
     }
-    let is_column = Header::parse(start).is_ok_and(|header| header.broken_rule().is_none());
-    if is_column && start.first() == Some(&1) {
+    let is_column = |header: Header| header.packing().is_some() && header.broken_rule().is_none();
+    if Header::parse(start).is_ok_and(is_column) {
         return Some("this is a column already: `signalfern read` prints its pairs");
     }
     let each_second = |from, is: fn(&u8) -> bool| start.iter().skip(from).step_by(2).all(is);

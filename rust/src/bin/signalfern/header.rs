@@ -2,12 +2,13 @@
 
 use signalfern::{power_allowed, MAX_COUNT};
 
+use crate::packing::Packing;
+
 /// The longest header: nine numbers of ten bytes.
 pub const LONGEST: usize = 90;
 /// Bytes of the end block.
 const END: u128 = 6;
 const MOST_JUMPS: u64 = 32_767;
-const MOST_BITS: u64 = 64;
 
 /// What the header's numbers are called, in order.
 pub const NAMES: [&str; 9] = [
@@ -106,6 +107,11 @@ impl Header {
         smallest(self.least)
     }
 
+    /// How its edition packs stored numbers, if it is one.
+    pub fn packing(&self) -> Option<Packing> {
+        Packing::of(self.edition)
+    }
+
     /// The first rule that is broken: the index of a number in it, and a sentence.
     pub fn broken_rule(&self) -> Option<(usize, String)> {
         self.broken_limit().or_else(|| self.broken_size())
@@ -125,9 +131,8 @@ impl Header {
             let why = format!("{jumps} jump entries, and at most {MOST_JUMPS} are allowed");
             return Some((4, why));
         }
-        if width > MOST_BITS {
-            let why = format!("width {width}, and at most {MOST_BITS} bits are allowed");
-            return Some((5, why));
+        if let Some(others) = self.packing().and_then(|it| it.other_widths(width)) {
+            return Some((5, format!("width {width}, and {others}")));
         }
         let why = "divisor 0, and it must be at least 1".to_string();
         (self.divisor == 0).then_some((7, why))
@@ -175,11 +180,14 @@ fn number(bytes: &[u8]) -> Option<(u64, usize)> {
 
 #[cfg(test)]
 mod tests {
+    use signalfern::Edition;
+
     use super::*;
 
     #[test]
     fn a_header_and_its_rules() {
-        let column = signalfern::write_to_vec(&[0, 2, 7], &[150, 140, 135], 9).unwrap();
+        let column =
+            signalfern::write_to_vec(&[0, 2, 7], &[150, 140, 135], Edition::Plain, 9).unwrap();
         let header = Header::parse(&column).unwrap();
         assert_eq!(header.numbers(), [1, 3, 9, 16, 0, 2, 270, 5, 1]);
         assert_eq!((header.len(), header.total()), (10, 27));
@@ -189,6 +197,14 @@ mod tests {
         let (index, sentence) = wrong.broken_rule().unwrap();
         assert_eq!(index, 8);
         assert!(sentence.contains("3 pairs of 3 bits take 2"), "{sentence}");
+        // Edition 2 has no width of 3 bits.
+        wrong.edition = 2;
+        let (index, sentence) = wrong.broken_rule().unwrap();
+        assert_eq!(index, 5);
+        assert!(
+            sentence.starts_with("width 3, and edition 2 has 0, 1, 2, 4, 8, "),
+            "{sentence}"
+        );
     }
 
     #[test]

@@ -3,8 +3,8 @@
 //! `table` holds the commands and options (`command`); the parser (`arguments`), `help`, `man` and `completions`
 //! are made from it. A command has a module of its own name. Below them: `input`, `lines`, `pairs` and
 //! `load` read; `output`, `temporary`, `printing` and `range` write; `column` is the one place that
-//! uses the package's opened column; `header` and `blocks` take bytes apart for `show` and for
-//! `diagnosis`, which explain a file and never judge it; all `unsafe` is in `system`.
+//! uses the package's opened column; `header`, `blocks` and `packing` take bytes apart for `show`, `audit`
+//! and `diagnosis`, which explain a file and never judge it; all `unsafe` is in `system`.
 
 mod arguments;
 mod audit;
@@ -29,6 +29,7 @@ mod memory;
 mod nearest;
 mod next;
 mod output;
+mod packing;
 mod pairs;
 mod printing;
 mod progress;

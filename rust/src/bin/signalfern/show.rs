@@ -9,6 +9,7 @@ use crate::failure::{complain, Failure, REFUSED};
 use crate::header::{smallest, Header, NAMES};
 use crate::load::Loaded;
 use crate::output::print;
+use crate::packing::Packing;
 use crate::text::counted;
 
 /// Rows of blocks shown at the beginning and at the end of a long table.
@@ -60,7 +61,7 @@ fn picture(loaded: &Loaded, mark: &str) -> String {
     };
     let mut out = format!("{}: {about}\n", loaded.name);
     header_rows(&mut out, &header.numbers(), header.len());
-    if header.edition == 1 && header.broken_rule().is_none() {
+    if header.packing().is_some() && header.broken_rule().is_none() {
         let section = Section::of(&header, bytes);
         let (runs, sizes) = runs(&section);
         blocks(&mut out, &runs, mark);
@@ -94,6 +95,7 @@ fn header_rows(out: &mut String, numbers: &[u64], bytes: usize) {
 
 fn remark(index: usize, number: u64) -> String {
     match (index, number) {
+        (0, _) => Packing::of(number).map_or(String::new(), |it| it.about().to_string()),
         (2, 0) => "no ranks".to_string(),
         (2, 7..=15) => format!("one rank to every {} places of a dense block", 1 << number),
         (3 | 8, _) => "bytes".to_string(),

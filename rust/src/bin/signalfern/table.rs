@@ -29,7 +29,7 @@ pub static COMMANDS: &[Command] = &[
 
 const WRITE: Command = Command {
     name: "write",
-    words: "[FILE] -o COLUMN [-p P] [--sidecar] [--force]",
+    words: "[FILE] -o COLUMN [-p P] [--edition E] [--sidecar] [--force]",
     summary: "make a column of lines `ID VALUE`",
     text: &[
         "Makes a column of the lines of FILE, or of standard input. Each line is `ID VALUE`; ids \
@@ -55,6 +55,13 @@ const WRITE: Command = Command {
             ),
             "rank power: 0 for no ranks, or 7 to 15 for one rank to every 2^P places of a dense \
              block. The default is 9",
+        ),
+        option(
+            Some('e'),
+            "edition",
+            ("E", Value::OneOf(&["1", "2"])),
+            "how values are stored: 1 in the least width, high bit first; 2 as Lucene 9 packs them, low \
+             bit first, in one of its widths. The default is 1. Every command reads both",
         ),
         flag(
             None,

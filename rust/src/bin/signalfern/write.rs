@@ -2,7 +2,7 @@
 
 use std::path::{Path, PathBuf};
 
-use signalfern::{power_allowed, Refusal};
+use signalfern::{power_allowed, Edition, Refusal};
 
 use crate::arguments::Arguments;
 use crate::failure::{complain, say, Failure};
@@ -17,12 +17,20 @@ use crate::text::{counted, hex, is_standard, named};
 /// Lucene's choice too.
 const DEFAULT_POWER: u32 = 9;
 
+/// What `--edition` takes.
+const EDITIONS: &str = "edition: 1 or 2";
+
 pub fn run(mut arguments: Arguments) -> Result<(), Failure> {
     let rule = "rank power: 0, or 7 to 15";
     let power = arguments.number("power", rule)?.unwrap_or(DEFAULT_POWER);
     if !power_allowed(power) {
         return Err(arguments.usage(format!("`{power}` is no {rule}")));
     }
+    let edition = match arguments.number("edition", EDITIONS)? {
+        None => Edition::default(),
+        Some(number) => Edition::from_number(number)
+            .ok_or_else(|| arguments.usage(format!("`{number}` is no {EDITIONS}")))?,
+    };
     let (force, sidecar) = (arguments.has("force"), arguments.has("sidecar"));
     let Some(path) = arguments.path("output") else {
         return Err(arguments.usage("no output is named: -o COLUMN"));
@@ -41,7 +49,7 @@ pub fn run(mut arguments: Arguments) -> Result<(), Failure> {
     };
     let name = input.name();
     let pairs = pairs_for(input, &output, force, &path)?;
-    let column = column_of(&pairs, power, &name)?;
+    let column = column_of(&pairs, edition, power, &name)?;
     let count = counted(pairs.ids.len() as u64, "pair");
     // From here on the column alone is needed.
     drop(pairs);
@@ -78,16 +86,17 @@ pub fn not_by_nothing(output: &Output, path: &Path, what: &str) -> Result<(), Fa
     )))
 }
 
-fn column_of(pairs: &Pairs, power: u32, name: &str) -> Result<Vec<u8>, Failure> {
+fn column_of(pairs: &Pairs, edition: Edition, power: u32, name: &str) -> Result<Vec<u8>, Failure> {
     let refused = |refusal| pairs.passed_over.refused(&pairs.ids, name, refusal);
+    let write = |out: &mut [u8]| signalfern::write(&pairs.ids, &pairs.values, edition, power, out);
     // No column is empty, so the first call asks for room.
-    let needed = match signalfern::write(&pairs.ids, &pairs.values, power, &mut []) {
+    let needed = match write(&mut []) {
         Err(Refusal::Room { needed }) => needed,
         Err(refusal) => return Err(refused(refusal)),
         Ok(len) => len,
     };
     let mut column = memory::zeros(needed as u64, "the column")?;
-    signalfern::write(&pairs.ids, &pairs.values, power, &mut column).map_err(refused)?;
+    write(&mut column).map_err(refused)?;
     Ok(column)
 }
 

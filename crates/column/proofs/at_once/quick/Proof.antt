@@ -1,32 +1,40 @@
 -- `column::at_once::quick` meets its contract: the nine numbers one after the other, each read at once. Assumes nothing.
-use Rattle.format.specs.Kit.{_≡_, refl, sym, ap, _∙_, arith, needs}
+use Rattle.format.specs.Kit.{_≡_, refl, sym, ap, _∙_, some, arith, _/_, needs}
 use Rattle.format.specs.Refusals.{done}
 use Rattle.format.specs.HeaderNumbers.{numberAt}
 use Rattle.format.specs.Column.{Head}
-use Rattle.format.specs.Editions.{plain, numberOf}
-use Rattle.format.proofs.Editions.{knows-all}
-use Rattle.column.specs.Opened.{judgedAs}
+use Rattle.format.specs.Editions.{editions, editionIn}
+use Rattle.values.specs.Edition.{editionOf}
+use Rattle.column.specs.Opened.{knownOf, judgedAs}
 use Rattle.column.proofs.HeaderNumbers.{quick-at, numbers-more}
 use Rattle.column.proofs.Steps.{all-numbers}
 use Rattle.column.proofs.at_once.quick.Statement.{statement}
 use Rattle.column.proofs.at_once.quick.Tie as tie
 
--- edition 1 is the byte 1
-edition : (c : tie.Else2) → numberAt (c .before .before .before .before .args .bytes .now) 0 ≡ done (1, 1)
-edition c = quick-at (c .before .quick-byte .ensures) (omega (arith, c .if2 .left)) (omega (arith, c .if2 .left)) (omega (arith, c .if2 .left))
+-- the edition's number is one byte long,
+first : (c : tie.Else2) → numberAt (c .before .before .before .before .args .bytes .now) 0 ≡ done (c .before .quick-byte .result / 16, 1)
+first c = quick-at (c .before .quick-byte .ensures) (λ e. omega (arith, c .if2 .left, e)) refl (omega (arith, c .if2 .left))
 
-returns : tie.Need-returns-7
-unfolding numberOf
+-- and known
+known : (c : tie.After-known-told) → let e = c .before in
+    editionIn editions (e .before .before .before .before .before .quick-byte .result / 16) ≡ some (editionOf (e .edition .given .0 .0))
+known c =
+    let e = c .before in
+    let i = e .before .before in
+    ap (editionIn editions) (sym (i .before .value-in .ensures)) ∙ sym (i .edition-in .ensures) ∙ ap knownOf (e .edition .given .1)
+
+returns : tie.Need-returns-8
 returns c =
     let p3 = c .before in
     let p2 = p3 .before .before .before in
     let p1 = p2 .before .before .before in
     let p0 = p1 .before .before .before in
-    let e = p0 .before .before .before in
+    let k = p0 .before .before .before in
+    let e = k .before .before .before .before .before in
     let s = e .before .before .before .before .args .bytes .now in
     λ n.
     let on = c .quick-values .ensures n in
-    all-numbers s 1 1 (edition e) plain (knows-all plain) _ _
+    all-numbers s _ 1 (first e) _ (known k) _ _
     (numbers-more 7 s 1 (quick-at (p0 .before .before .quick-more .ensures) (p0 .before .if3 .left) refl (p0 .place-after .ensures .0))
     (numbers-more 6 s _ (quick-at (p1 .before .before .quick-byte2 .ensures) (p1 .before .if4 .left) refl (p1 .place-after2 .ensures .0))
     (numbers-more 5 s _ (quick-at (p2 .before .before .quick-more2 .ensures) (p2 .before .if5 .left) refl (p2 .place-after3 .ensures .0))
@@ -41,13 +49,15 @@ quick-spec =
     (λ c n. absurd (n (c .no-header .ensures)))
     (λ c κs. search needs) (λ c κs. search needs)
     (λ c n. absurd (n (c .no-header2 .ensures)))
-    (λ c κs. search needs) (λ c κs. search needs)
+    (λ c κs. search needs) (λ c κs. search needs) (λ c. search needs) (λ c. search needs) (λ c κs. search needs)
     (λ c n. absurd (n (c .no-header3 .ensures)))
-    (λ c κs. search needs) (λ c κs. search needs) (λ c κs. search needs)
+    (λ c κs. search needs) (λ c κs. search needs)
     (λ c n. absurd (n (c .no-header4 .ensures)))
     (λ c κs. search needs) (λ c κs. search needs) (λ c κs. search needs)
     (λ c n. absurd (n (c .no-header5 .ensures)))
     (λ c κs. search needs) (λ c κs. search needs) (λ c κs. search needs)
     (λ c n. absurd (n (c .no-header6 .ensures)))
+    (λ c κs. search needs) (λ c κs. search needs) (λ c κs. search needs)
+    (λ c n. absurd (n (c .no-header7 .ensures)))
     (λ c κs. search needs) (λ c κs. search needs)
     returns)

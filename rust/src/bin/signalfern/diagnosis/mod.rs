@@ -76,7 +76,7 @@ impl Diagnosis {
             (Refusal::Header, Ok(header)) => {
                 converted().unwrap_or_else(|| start::broken_rule(&header))
             }
-            (Refusal::Edition, _) => converted().unwrap_or_else(|| start::not_edition_one(bytes)),
+            (Refusal::Edition, _) => converted().unwrap_or_else(|| start::no_edition(bytes)),
             // Nothing else is refused by the check.
             _ => Self::new(Vec::new(), COPY_AGAIN),
         }

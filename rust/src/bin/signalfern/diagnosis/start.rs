@@ -3,6 +3,7 @@
 use super::{Diagnosis, COPY_AGAIN};
 use crate::causes::other_kind;
 use crate::header::{Header, NAMES};
+use crate::packing::Packing;
 use crate::text::quoted;
 
 /// HEADER: which rule, with the numbers.
@@ -16,14 +17,14 @@ pub fn broken_rule(header: &Header) -> Diagnosis {
 }
 
 /// EDITION: what else the file may be.
-pub fn not_edition_one(bytes: &[u8]) -> Diagnosis {
+pub fn no_edition(bytes: &[u8]) -> Diagnosis {
     match stranger(bytes) {
         Some(diagnosis) => diagnosis,
         None => {
             let start = &bytes[..bytes.len().min(8)];
             let bytes: Vec<String> = start.iter().map(|byte| format!("{byte:02X}")).collect();
             let line = format!(
-                "it starts with the bytes {}, and a column starts with 01",
+                "it starts with the bytes {}, and a column starts with 01 or 02",
                 bytes.join(" ")
             );
             Diagnosis::new(vec![line], "see whether this is the right file")
@@ -33,7 +34,10 @@ pub fn not_edition_one(bytes: &[u8]) -> Diagnosis {
 
 /// A file of another kind that is often taken for a column.
 pub fn stranger(bytes: &[u8]) -> Option<Diagnosis> {
-    if bytes.first() == Some(&1) {
+    if bytes
+        .first()
+        .is_some_and(|&it| Packing::of(it.into()).is_some())
+    {
         return None;
     }
     let line = bytes.split(|&byte| byte == b'\n').next()?;

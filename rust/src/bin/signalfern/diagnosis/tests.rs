@@ -1,13 +1,13 @@
 //! The diagnosis on columns with one thing changed, where the answer is known, and on many more
 //! where it must only make sense.
 
-use signalfern::Refusal;
+use signalfern::{Edition, Refusal};
 
 use super::{damage, Diagnosis};
 use crate::blocks::Section;
 use crate::header::Header;
 
-/// Columns with every kind of block, with and without ranks, and of several widths.
+/// Columns of each edition with every kind of block, with and without ranks, and of several widths.
 fn columns() -> Vec<Vec<u8>> {
     let dense: Vec<u32> = (0..65_536).filter(|id| id % 7 != 3).collect();
     let all: Vec<u32> = (0..65_536).collect();
@@ -24,15 +24,17 @@ fn columns() -> Vec<Vec<u8>> {
         [some.clone(), in_block(2, &dense), in_block(3, &dense)].concat(),
     ];
     let mut columns = Vec::new();
-    for (ids, step) in lists.iter().zip([1, 5, 3, 1, 1, 1000]) {
-        for power in [0, 7, 9, 15] {
-            let values: Vec<i64> = (ids.iter())
-                .map(|id| step * i64::from(id * 31 % 97))
-                .collect();
-            columns.push(signalfern::write_to_vec(ids, &values, power).unwrap());
+    for edition in [Edition::Plain, Edition::Lucene] {
+        for (ids, step) in lists.iter().zip([1, 5, 3, 1, 1, 1000]) {
+            for power in [0, 7, 9, 15] {
+                let values: Vec<i64> = (ids.iter())
+                    .map(|id| step * i64::from(id * 31 % 97))
+                    .collect();
+                columns.push(signalfern::write_to_vec(ids, &values, edition, power).unwrap());
+            }
+            let equal = vec![-5; ids.len()];
+            columns.push(signalfern::write_to_vec(ids, &equal, edition, 9).unwrap());
         }
-        let equal = vec![-5; ids.len()];
-        columns.push(signalfern::write_to_vec(ids, &equal, 9).unwrap());
     }
     columns
 }
@@ -115,7 +117,7 @@ fn flipped_bits_are_found_where_they_are() {
 fn two_blocks() -> Vec<u8> {
     let ids: Vec<u32> = (65_536..65_540).chain(131_072..136_072).collect();
     let values = ids.iter().map(|id| i64::from(10 * (id % 50)));
-    signalfern::write_to_vec(&ids, &values.collect::<Vec<i64>>(), 9).unwrap()
+    signalfern::write_to_vec(&ids, &values.collect::<Vec<i64>>(), Edition::Plain, 9).unwrap()
 }
 
 /// The bits flipped at a byte of the id section, and the byte and the words of the finding.
@@ -188,9 +190,13 @@ fn places_are_named() {
 #[test]
 fn values_that_cannot_be() {
     // Stored 3, 1, 0 at width 2, in byte 26; w stands at byte 5, the smallest value at 6, g at 8.
-    let column = signalfern::write_to_vec(&[0, 2, 7], &[150, 140, 135], 9).unwrap();
+    let column = signalfern::write_to_vec(&[0, 2, 7], &[150, 140, 135], Edition::Plain, 9).unwrap();
     for (byte, place, words) in [
-        (0xD1, 26, "spare bits after the last value: D1"),
+        (
+            0xD1,
+            26,
+            "spare bits after the last value: D1, and its 2 low bits must be 0",
+        ),
         // Stored 3, 1, 1; then 0, 1, 0.
         (
             0xD4,
@@ -220,6 +226,39 @@ fn values_that_cannot_be() {
         assert_eq!(at, place, "{text}");
         assert!(text.contains(words), "{text}");
     }
+    // In edition 2 the same are 07, from the low end on.
+    let packed = signalfern::write_to_vec(&[0, 2, 7], &[150, 140, 135], Edition::Lucene, 9);
+    let packed = packed.unwrap();
+    for (byte, place, words) in [
+        (
+            0x47,
+            26,
+            "spare bits after the last value: 47, and its 2 high bits must be 0",
+        ),
+        // Stored 3, 1, 1; then 0, 1, 0; then 2, 0, 2.
+        (
+            0x17,
+            6,
+            "smallest value in the header: 135, and no value is so small",
+        ),
+        (
+            0x04,
+            5,
+            "width (w) in the header: 2, and the greatest stored, 1, needs 1 bits",
+        ),
+        (
+            0x22,
+            26,
+            "stored numbers: 2 divides them all, so the writer would give divisor 10 and not 5",
+        ),
+    ] {
+        let mut bytes = packed.clone();
+        assert_eq!(bytes[26], 0x07);
+        bytes[26] = byte;
+        let (at, text) = finding(&bytes);
+        assert_eq!(at, place, "{text}");
+        assert!(text.contains(words), "{text}");
+    }
     // Another divisor makes another column: 156, 142, 135.
     let mut bytes = column;
     bytes[8] = 7;
@@ -231,7 +270,7 @@ fn a_value_that_does_not_fit() {
     // Stored 0, 200, 101 at width 8, and 200 is as much as fits.
     let greatest = i64::MAX;
     let values = [greatest - 200, greatest, greatest - 99];
-    let mut bytes = signalfern::write_to_vec(&[1, 2, 3], &values, 9).unwrap();
+    let mut bytes = signalfern::write_to_vec(&[1, 2, 3], &values, Edition::Plain, 9).unwrap();
     let second = bytes.len() - 2;
     bytes[second] = 201;
     let (at, text) = finding(&bytes);

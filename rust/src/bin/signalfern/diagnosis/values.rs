@@ -2,6 +2,7 @@
 
 use super::Finding;
 use crate::header::{Header, NAMES};
+use crate::packing::Packing;
 
 /// What the stored numbers are, taken together.
 #[derive(Default)]
@@ -20,6 +21,7 @@ pub fn find(header: &Header, bytes: &[u8]) -> Option<Finding> {
         Some(Finding { at, part, why })
     };
     let (smallest, divisor, width) = (header.smallest(), header.divisor, header.width);
+    let packing = header.packing()?;
     if header.count == 0 && header.least != 0 {
         return in_header(6, format!("{smallest}, and without pairs it is 0"));
     }
@@ -29,11 +31,11 @@ pub fn find(header: &Header, bytes: &[u8]) -> Option<Finding> {
     }
     let start = header.len() + usize::try_from(header.id_bytes).ok()?;
     let section = bytes.get(start..)?;
-    let summary = match sum_up(header, section) {
+    let summary = match sum_up(header, packing, section) {
         Ok(summary) => summary,
         Err((index, stored)) => return Some(too_great(header, start, index, stored)),
     };
-    if let Some(finding) = spare_bits(header, section, start) {
+    if let Some(finding) = spare_bits(header, packing, section, start) {
         return Some(finding);
     }
     let least = summary.least.unwrap_or(0);
@@ -41,7 +43,7 @@ pub fn find(header: &Header, bytes: &[u8]) -> Option<Finding> {
         let why = format!("{smallest}, and no value is so small (the least stored is {least})");
         return in_header(6, why);
     }
-    let needed = u64::from(u64::BITS - summary.greatest.leading_zeros());
+    let needed = packing.least_width(summary.greatest);
     if needed < width {
         let greatest = summary.greatest;
         let why = format!("{width}, and the greatest stored, {greatest}, needs {needed} bits");
@@ -51,9 +53,9 @@ pub fn find(header: &Header, bytes: &[u8]) -> Option<Finding> {
 }
 
 /// Passes over all stored numbers; stops at one whose value does not fit in 64 bits.
-fn sum_up(header: &Header, section: &[u8]) -> Result<Summary, (u64, u64)> {
+fn sum_up(header: &Header, packing: Packing, section: &[u8]) -> Result<Summary, (u64, u64)> {
     let mut summary = Summary::default();
-    let mut stored = Stored::new(section, header.width as u32);
+    let mut stored = Stored::new(section, packing, header.width as u32);
     for index in 0..header.count {
         let Some(number) = stored.next() else {
             break;
@@ -102,20 +104,21 @@ fn multiples(header: &Header, start: usize, common: u64) -> Finding {
 }
 
 /// The bits after the last value.
-fn spare_bits(header: &Header, section: &[u8], start: usize) -> Option<Finding> {
+fn spare_bits(header: &Header, packing: Packing, section: &[u8], start: usize) -> Option<Finding> {
     let used = (u128::from(header.count) * u128::from(header.width) % 8) as u32;
     let last = *section.last()?;
-    let spare = last & (0xFF_u8.checked_shr(used).unwrap_or(0));
-    (used != 0 && spare != 0).then(|| Finding {
+    let (spare, end) = packing.spare(used);
+    (used != 0 && last & spare != 0).then(|| Finding {
         at: (start + section.len() - 1) as u64,
         part: "spare bits after the last value".to_string(),
-        why: format!("{last:02X}, and its last {} bits must be 0", 8 - used),
+        why: format!("{last:02X}, and its {} {end} bits must be 0", 8 - used),
     })
 }
 
-/// The stored numbers, one after another, high bit first.
+/// The stored numbers, one after another.
 struct Stored<'a> {
     bytes: std::slice::Iter<'a, u8>,
+    packing: Packing,
     width: u32,
     /// Bits that were read and not yet used: the lowest of `bits`.
     bits: u128,
@@ -123,9 +126,10 @@ struct Stored<'a> {
 }
 
 impl<'a> Stored<'a> {
-    fn new(section: &'a [u8], width: u32) -> Self {
+    fn new(section: &'a [u8], packing: Packing, width: u32) -> Self {
         Self {
             bytes: section.iter(),
+            packing,
             width,
             bits: 0,
             left: 0,
@@ -134,13 +138,21 @@ impl<'a> Stored<'a> {
 
     fn next(&mut self) -> Option<u64> {
         while self.left < self.width {
-            self.bits = self.bits << 8 | u128::from(*self.bytes.next()?);
+            let byte = u128::from(*self.bytes.next()?);
+            self.bits = match self.packing {
+                Packing::HighFirst => self.bits << 8 | byte,
+                Packing::LowFirst => self.bits | byte << self.left,
+            };
             self.left += 8;
         }
         self.left -= self.width;
-        let number = (self.bits >> self.left) as u64;
-        self.bits &= (1 << self.left) - 1;
+        // The number is at the high end of the bits, or at the low one.
+        let (number, rest) = match self.packing {
+            Packing::HighFirst => (self.bits >> self.left, self.bits & ((1 << self.left) - 1)),
+            Packing::LowFirst => (self.bits, self.bits >> self.width),
+        };
+        self.bits = rest;
         let unused = 64 - self.width;
-        Some(number << unused >> unused)
+        Some((number as u64) << unused >> unused)
     }
 }

@@ -1,2 +1,0 @@
--- What stored numbers stand for.
-pub mod Held

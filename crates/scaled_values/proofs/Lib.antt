@@ -1,0 +1,4 @@
+-- The header rules as facts, and laws that the functions' proofs cite.
+pub mod Facts
+pub mod Store
+pub mod Held

@@ -1,0 +1,2 @@
+-- What a section holds.
+pub mod Held

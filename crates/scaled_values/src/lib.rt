@@ -1,0 +1,72 @@
+// One smallest value, one divisor and one width for all values (document 01, "Value section"), by one of the packings: the codec of editions
+// 1 and 2.
+ghost use mathlib.Core.Path.{_≡_};
+ghost use mathlib.Core.List.{_++_};
+ghost use Prim.Native.Nat.{_*_, _≤_};
+ghost use lib.ListN.{length, drop};
+ghost use Rattle.format.specs.Limits.{maxCount, maxWidth};
+ghost use Rattle.format.specs.Pairs.{Each, Fits};
+ghost use Rattle.format.specs.Codec.{scaled};
+ghost use Rattle.format.specs.Replies.{fieldsOf};
+ghost use Rattle.packings.specs.Packings.{packingOf};
+use format::Fields;
+use packings::Order;
+
+// What the header says of the values.
+pub fn plan(order: Order, values: &[i64]) -> Fields
+    ensures { λ r. ⌜ (fieldsOf r ≡ scaled (packingOf order) .fields (now (values .entry))) × Each Fits (now (values .entry)) ⌝ }
+{
+    let scale = scaling::scale_of(values);
+    Fields {
+        width: packings::width_for(order, scale.most),
+        smallest: scale.smallest,
+        divisor: scale.divisor,
+    }
+}
+
+// The value section's length, by the fields of the values.
+pub fn length(order: Order, values: &[i64], fields: Fields) -> u64
+    requires { ⌜ (fieldsOf fields ≡ scaled (packingOf order) .fields (now values)) × Each Fits (now values) × (length (now values) ≤ maxCount) ⌝ }
+    ensures { λ r. ⌜ (r ≡ length (scaled (packingOf order) .section (now (values .entry)))) × (r ≤ 8 * length (now (values .entry))) ⌝ }
+{
+    packing::packed_bytes(numbers::long(values.len()), fields.width)
+}
+
+// Whether the fields, and v as the value section's length, keep the header rules.
+pub fn rules(order: Order, n: u64, fields: Fields, v: u64) -> bool
+    requires { ⌜ (n ≤ maxCount) × (fields .width ≤ maxWidth) ⌝ }
+    ensures { λ r. ⌜ r ≡ scaled (packingOf order) .fieldsOk n (fieldsOf fields) v ⌝ }
+{
+    if fields.divisor < 1 {
+        return false;
+    }
+    if !packings::width_ok(order, fields.width) {
+        return false;
+    }
+    v == packing::packed_bytes(n, fields.width)
+}
+
+// Writes the value section to the front of out, the part of the output that starts where the section starts.
+pub fn put(out: &mut [u8], order: Order, values: &[i64], fields: Fields)
+    requires { ⌜ (fieldsOf fields ≡ scaled (packingOf order) .fields (now values)) × Each Fits (now values)
+        × (length (scaled (packingOf order) .section (now values)) ≤ length (now out)) ⌝ }
+    ensures { λ _. ⌜ now (out .exit) ≡ scaled (packingOf order) .section (now (values .entry))
+        ++ drop (length (scaled (packingOf order) .section (now (values .entry)))) (now (out .entry)) ⌝ }
+{
+    let low = signed::biased_of(fields.smallest);
+    let divisor = fields.divisor;
+    let w = fields.width as usize;
+    let m = scaling::reciprocal(divisor);
+    let mut p = packing::Pending {
+        at: 0,
+        have: 0,
+        acc: 0,
+    };
+    let mut i = 0;
+    while i < values.len() {
+        let x = scaling::quotient(signed::biased(values[i]) - low, divisor, m);
+        p = packings::push(out, order, p, w, x);
+        i += 1;
+    }
+    packings::finish(out, order, p);
+}

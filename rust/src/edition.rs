@@ -1,0 +1,55 @@
+//! The editions of a column.
+
+/// How a column stores its values. Every call takes columns of each edition; the writer is told one.
+///
+/// ```
+/// use signalfern::{Column, Edition};
+///
+/// // Three bits would do for 0 to 7; Lucene has four.
+/// let values = [0, 7, 3];
+/// let plain = signalfern::write_to_vec(&[0, 2, 7], &values, Edition::Plain, 9)?;
+/// let lucene = signalfern::write_to_vec(&[0, 2, 7], &values, Edition::Lucene, 9)?;
+/// assert_eq!((Column::open(&plain)?.width(), Column::open(&lucene)?.width()), (3, 4));
+/// assert_eq!(Column::open(&lucene)?.edition(), Edition::Lucene);
+/// assert_eq!(signalfern::read_to_vecs(&plain)?, signalfern::read_to_vecs(&lucene)?);
+/// # Ok::<(), signalfern::Error>(())
+/// ```
+#[derive(Clone, Copy, Debug, Default, PartialEq, Eq, Hash)]
+#[non_exhaustive]
+pub enum Edition {
+    /// Edition 1: stored numbers of the least width from 0 to 64, high bit first.
+    #[default]
+    Plain,
+    /// Edition 2: packed as Lucene 9 packs, low bit first, at the least of its widths (1, 2, 4, 8, 12,
+    /// 16, 20, 24, 28, 32, 40, 48, 56 and 64), or 0.
+    Lucene,
+}
+
+impl Edition {
+    /// The edition with this number, which is a column's first header number. None if there is no such
+    /// edition.
+    ///
+    /// ```
+    /// use signalfern::Edition;
+    ///
+    /// assert_eq!(Edition::from_number(2), Some(Edition::Lucene));
+    /// assert_eq!(Edition::from_number(0), None);
+    /// ```
+    #[must_use]
+    pub const fn from_number(number: u64) -> Option<Self> {
+        match number {
+            1 => Some(Self::Plain),
+            2 => Some(Self::Lucene),
+            _ => None,
+        }
+    }
+
+    /// Its number.
+    #[must_use]
+    pub const fn number(self) -> u32 {
+        match self {
+            Self::Plain => 1,
+            Self::Lucene => 2,
+        }
+    }
+}
