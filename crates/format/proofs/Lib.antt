@@ -17,6 +17,7 @@ pub mod PinsLucene
 pub mod Demands
 pub mod Meaning
 pub mod MeaningValues
+pub mod LeastWidth
 pub mod Cases
 pub mod Tests
 pub mod Rules

@@ -31,7 +31,7 @@ smallest-among v vs = smallest-has (λ x. Among x (v ∷ vs)) v vs (each-among (
 pub greatest-most : (vs : List ℤ) → Each (λ v. T (leZ v (greatest vs))) vs
 greatest-most = greatest-each
 
-greatest-has : (P : ℤ → Type 0) (v : ℤ) (vs : List ℤ) → Each P (v ∷ vs) → P (greatest (v ∷ vs))
+pub greatest-has : (P : ℤ → Type 0) (v : ℤ) (vs : List ℤ) → Each P (v ∷ vs) → P (greatest (v ∷ vs))
 unfolding greatest
 greatest-has P v vs t = most-has P v vs (t .0) (t .1)
 
@@ -47,7 +47,7 @@ AllEqual vs = Each (λ v. v ≡ smallest vs) vs
 over-self : (m : ℤ) → over m m ≡ 0
 over-self m = ap natAbs (+ℤ-invr m)
 
-equal-spread : (vs : List ℤ) → AllEqual vs → spread vs ≡ 0
+pub equal-spread : (vs : List ℤ) → AllEqual vs → spread vs ≡ 0
 unfolding spread smallest greatest
 equal-spread [] t = over-self (pos 0)
 equal-spread (v ∷ vs) t =

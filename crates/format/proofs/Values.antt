@@ -103,7 +103,7 @@ both-steps a b c =
     +ℤ-assoc c (negℤ b) (b +ℤ negℤ a)
     ∙ ap (λ (z : ℤ). c +ℤ z) (sym (+ℤ-assoc (negℤ b) b (negℤ a)) ∙ ap (λ (z : ℤ). z +ℤ negℤ a) (+ℤ-invl b) ∙ +ℤ-idl (negℤ a))
 
-over-add : (a b c : ℤ) → T (leZ a b) → T (leZ b c) → over a c ≡ over a b + over b c
+pub over-add : (a b c : ℤ) → T (leZ a b) → T (leZ b c) → over a c ≡ over a b + over b c
 over-add a b c h k =
     ap natAbs (sym (both-steps a b c) ∙ ap₂ _+ℤ_ (sym (pos-natAbs (c -ℤ b) (diff-nonNeg b c k))) (sym (pos-natAbs (b -ℤ a) (diff-nonNeg a b h))))
     ∙ add-comm (over b c) (over a b)
@@ -187,7 +187,7 @@ pub each-two : {P Q R : ℤ → Type 0} → ((v : ℤ) → P v → Q v → R v) 
 each-two f [] s t = tt
 each-two f (v ∷ vs) s t = (f v (s .0) (t .0), each-two f vs (s .1) (t .1))
 
-value-back : (m : ℤ) (g : ℕ) (v : ℤ) → T (leZ m v) → g ∣ over m v → valueAt m g (over m v / g) ≡ v
+pub value-back : (m : ℤ) (g : ℕ) (v : ℤ) → T (leZ m v) → g ∣ over m v → valueAt m g (over m v / g) ≡ v
 unfolding valueAt
 value-back m g v h d = rw (mul-div-cancel' g d) (over-back m v h)
 

@@ -12,6 +12,7 @@ pub mod Values
 pub mod Codec
 pub mod Editions
 pub mod Pairs
+pub mod Steps
 pub mod Column
 pub mod Writer
 pub mod Opening
