@@ -141,22 +141,22 @@ pub fn ends_of(s: &[u8], w: usize) -> Ends
     }
 }
 
-// The number of w bits that x begins, from its first bit on, and y ends, at its last: where both have a bit, it is the same.
+// The number of w bits in the first w of x and y: x has its first bits, y its last, and where both have a bit, it is the same.
 fn met(x: u64, y: u64, w: usize) -> u64
     requires { ⌜ (0 < w) × (w ≤ 64) ⌝ }
-    ensures { λ r. ⌜ ((n u v : ℕ) → u ≤ v → x / 2 ^ (64 - w) ≡ n / 2 ^ u * 2 ^ u → y % 2 ^ w ≡ n % 2 ^ v → r ≡ n) ⌝ }
+    ensures { λ r. ⌜ ((n u v : ℕ) → u ≤ v → x / 2 ^ (64 - w) ≡ n / 2 ^ u * 2 ^ u → y / 2 ^ (64 - w) ≡ n % 2 ^ v → r ≡ n) ⌝ }
 {
-    (x >> (64 - w)) | (y & (u64::MAX >> (64 - w)))
+    (x >> (64 - w)) | (y >> (64 - w))
 }
 
 // The number in the w bits after the first skip ones of the n bytes that they touch, by the ends of these. The first byte is trimmed by skip
-// bits, the last by those that are left over.
+// bits, and the last bytes are put behind; where both ends are the same bytes, below the number.
 pub fn number_of(e: Ends, n: usize, skip: usize, w: usize) -> u64
     requires { ⌜ (skip < 8) × (0 < w) × (w ≤ 64) × (n ≡ bitBytes (skip + w)) × (1 ≤ e .k) × (e .k ≤ 8) × (e .k ≤ n) ⌝ }
     ensures { λ r. ⌜ ((s : List ℕ) → ((k : ℕ) → getD s k 0 < 256) → length s ≡ n → EndsOf s e → r ≡ gather (bitAt s) skip w) ⌝ }
 {
     let x = swapped(e.front) << skip;
-    let y = swapped(e.back) >> (64 + 8 * (n - e.k) - skip - w);
+    let y = swapped(e.back) >> ((64 + 8 * (n - e.k) - skip) % 64);
     met(x, y, w)
 }
 

@@ -1,5 +1,5 @@
 -- `packing::number_of` meets its contract. Assumes nothing.
-use Rattle.format.specs.Kit.{needs, _≡_, ap, _∙_, List, ℕ, _+_, _-_, _*_, _/_, _%_, _^_, _<_, arith, length, getD}
+use Rattle.format.specs.Kit.{needs, _≡_, refl, ap, _∙_, List, ℕ, _+_, _-_, _*_, _/_, _%_, _^_, _<_, arith, length, getD}
 use Rattle.format.specs.Bits.{bitAt, gather}
 use Rattle.format.proofs.Bits.{bitAt-lt}
 use Rattle.packing.specs.Turned.{turned}
@@ -22,14 +22,14 @@ returns c s fits len e =
     let back = c .before .before .swapped2 .ensures ∙ ap (turned 8) (rw at-back at (e .back))
     ∙ turned-low k (8 - k) 8 s m fits (omega (arith, e .inside)) (omega (arith, e .few))
     ∙ ap (λ (j : ℕ). gather (bitAt s) (m * 8) (8 * k) * 2 ^ j) d in
-    let i : ℕ = 64 + 8 * m - a .skip - a .w in
+    let i : ℕ = (64 + 8 * m - a .skip) % 64 in
     by-ends (bitAt s) (bitAt-lt s) (a .skip) (a .w) k m (64 - 8 * k) i (64 - a .w) (omega arith) (omega arith) (e .some)
-    (omega (arith, e .all)) (omega (arith, e .inside)) (omega (arith, e .few)) (omega (arith, e .few, e .inside)) (omega arith)
+    (omega (arith, e .all)) (omega (arith, e .inside)) (omega (arith, e .few)) refl (omega arith)
     (ap (λ (x : ℕ). x * 2 ^ a .skip % 2 ^ 64) front) (ap (λ (x : ℕ). x / 2 ^ i) back) (c .met .ensures)
 
 pub number-of-spec : {M : Type 1} → statement M
 number-of-spec =
     tie.close (tie.spec
-    (λ c κs. search needs) (λ c. search needs) (λ c κs. search needs) (λ c. search needs) (λ c. search needs) (λ c. search needs) (λ c. search needs)
+    (λ c κs. search needs) (λ c. search needs) (λ c κs. search needs) (λ c. search needs) (λ c. search needs) (λ c. search needs)
     (λ c. search needs) (λ c. search needs) (λ c κs. search needs)
     returns)
