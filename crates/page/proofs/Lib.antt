@@ -1,3 +1,4 @@
 -- Laws of a page.
 pub mod Marking
 pub mod Pages
+pub mod Slots

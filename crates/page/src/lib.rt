@@ -2,8 +2,9 @@
 // Where an id stands is found in marks.rt.
 ghost use mathlib.Core.Path.{_≡_};
 ghost use mathlib.Core.List.{List, map};
-ghost use mathlib.Core.Bool.{true};
-ghost use Prim.Native.Nat.{ℕ, _/_, _<_};
+ghost use mathlib.Core.Bool.{_&&_, true};
+ghost use Prim.Native.Nat.{ℕ, _+_, _/_, _<_};
+ghost use lib.Dec.{eqb, leb};
 ghost use lib.ListN.{length};
 ghost use Rattle.format.specs.Limits.{blockPlaces};
 ghost use Rattle.format.specs.Refusals.{done, refused};
@@ -108,6 +109,17 @@ fn unopened(why: Refusal, id: u32) -> Held
 
 // ---- the page
 
+// Ids of one block share what steps 1 to 4 gave for it: so many blocks are kept, each in the slot of its number.
+const SLOTS: usize = 16;
+
+// Whether the id at i shares the block that its slot has, after some blocks were met anew. Once these are many, none is shared any more: of ids
+// in any order, of which now one shares and now one does not, each would be guessed wrong.
+fn shared(kept: usize, number: usize, anew: usize, i: usize) -> bool
+    ensures { λ r. ⌜ r ≡ (eqb kept number && leb anew (32 + i / 8)) ⌝ }
+{
+    (kept == number) & (anew <= 32 + i / 8)
+}
+
 fn put(ordinals: &mut [u64], values: &mut [i64], kinds: &mut [u8], i: usize, held: Held)
     requires { ⌜ (i < length (now ordinals)) × (i < length (now values)) × (i < length (now kinds)) ⌝ }
     ensures { λ _.
@@ -136,13 +148,22 @@ fn fill(
         (now (values .entry)) (now (values .exit)) (now (kinds .entry)) (now (kinds .exit)) r ⌝ }
 {
     let mut words: u64 = 0;
-    let mut number = Block::PLACES;
-    let mut met = Step::Absent;
+    let none = Step::Absent;
+    let mut numbers = [Block::PLACES; SLOTS];
+    let mut steps = [none; SLOTS];
+    let mut anew: usize = 0;
     let mut i: usize = 0;
     while i < ids.len() {
         let id = ids[i];
-        met = marks::met_in(bytes, column, id, number, met);
-        number = blocks::number_of(id);
+        let number = blocks::number_of(id);
+        let slot = number % SLOTS;
+        if !shared(numbers[slot], number, anew, i) {
+            let met = marks::met_in(bytes, column, id);
+            numbers[slot] = number;
+            steps[slot] = met;
+            anew += 1;
+        }
+        let met = steps[slot];
         let held = held_in(bytes, column, id, met);
         put(ordinals, values, kinds, i, held);
         words = std::num::wrapping_add_u64(words, held.words);

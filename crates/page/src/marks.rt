@@ -1,5 +1,5 @@
-// Steps 1 to 6 for the ids of a page: where each stands in the id section. They are the single look-up's, but for two things: neighbours share
-// their block, and a sparse block's search goes by its count (`in_block::index_in`), so that the searches of neighbours overlap.
+// Steps 1 to 6 for the ids of a page: where each stands in the id section. They are the single look-up's, but for two things: ids of one block
+// share steps 1 to 4, and a sparse block's search goes by its count (`in_block::index_in`), so that the searches of neighbours overlap.
 ghost use mathlib.Core.Path.{_≡_};
 ghost use mathlib.Core.Bool.{true};
 ghost use Prim.Native.Nat.{_+_, _*_, _/_, _≤_, _<_};
@@ -84,15 +84,11 @@ fn mark_in(s: &[u8], block: Block, p: usize, r: usize) -> Mark
 
 // ---- steps 1 to 6
 
-// Steps 1 to 4 for an id, where they gave `met` for block `number`: neighbouring ids share their block.
-pub fn met_in(bytes: &[u8], column: Column, id: u32, number: usize, met: Step) -> Step
-    requires { ⌜ (headOk (columnOf column .head) ≡ true) × (lengthOk (now bytes) (columnOf column) ≡ true)
-        × (BlockIs (now bytes) (columnOf column) number met) ⌝ }
+// Steps 1 to 4 for an id, and so for each id of its block.
+pub fn met_in(bytes: &[u8], column: Column, id: u32) -> Step
+    requires { ⌜ (headOk (columnOf column .head) ≡ true) × (lengthOk (now bytes) (columnOf column) ≡ true) ⌝ }
     ensures { λ r. ⌜ BlockIs (now (bytes .entry)) (columnOf column) (id / blockPlaces) r ⌝ }
 {
-    if blocks::number_of(id) == number {
-        return met;
-    }
     let head = column.head;
     let start = numbers::size(column.start);
     let end = start + numbers::size(head.id_bytes);
