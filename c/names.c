@@ -5,13 +5,13 @@
  */
 #include "signalfern.h"
 
-struct refusal {
+struct named {
     const char *name;
     const char *text;
 };
 
 /* By number. */
-static const struct refusal refusals[] = {
+static const struct named refusals[] = {
     {"NONE", "nothing was refused"},
     {"LENGTHS", "there are not as many values as ids"},
     {"POWER", "the rank power must be 0 (no ranks) or 7 to 15"},
@@ -33,12 +33,32 @@ static const struct refusal refusals[] = {
     {"BACK", "the target is below the last one answered: from a cursor, targets stand still or grow"},
 };
 
-static const struct refusal unknown = {"UNKNOWN", "no refusal has this number"};
+static const struct named no_refusal = {"UNKNOWN", "no refusal has this number"};
 
-static const struct refusal *refusal_of(uint64_t number)
+static const struct named *refusal_of(uint64_t number)
 {
     int known = number < sizeof refusals / sizeof refusals[0] && refusals[number].name;
-    return known ? &refusals[number] : &unknown;
+    return known ? &refusals[number] : &no_refusal;
+}
+
+/* Why an id section is faulty, by number. */
+static const struct named reasons[] = {
+    {"NONE", "nothing is wrong"},
+    {"CUT_OFF", "the bytes end within a block"},
+    {"BLOCK_ORDER", "the block's number is not above the one before it, or is above the greatest, 32765"},
+    {"PLACE_ORDER", "the places of the block do not ascend"},
+    {"ONES", "the block's bitmap has more or fewer ones than the block has ids"},
+    {"RANK", "a rank of the block is not the count of ones before its stride"},
+    {"END_BLOCK", "the end block is not FF 7F 00 00 FF FF, or 7F FF 00 00 FF FF high byte first"},
+    {"JUMPS", "the jump entries are not those of the blocks: their count, or the one at this place"},
+    {"LEFT_OVER", "bytes follow the jump entries"},
+};
+
+static const struct named no_reason = {"UNKNOWN", "no reason has this number"};
+
+static const struct named *reason_of(uint64_t number)
+{
+    return number < sizeof reasons / sizeof reasons[0] ? &reasons[number] : &no_reason;
 }
 
 const char *signalfern_version(void)
@@ -54,6 +74,16 @@ const char *signalfern_refusal_name(uint64_t refusal)
 const char *signalfern_refusal_text(uint64_t refusal)
 {
     return refusal_of(refusal)->text;
+}
+
+const char *signalfern_reason_name(uint64_t reason)
+{
+    return reason_of(reason)->name;
+}
+
+const char *signalfern_reason_text(uint64_t reason)
+{
+    return reason_of(reason)->text;
 }
 
 /* The header has 2v for v >= 0 and -2v-1 for v < 0; half of the latter is -v-1. */

@@ -178,6 +178,27 @@ typedef struct {
     uint64_t ordinal; /* Found: how many ids of the set lie below the id. */
 } signalfern_member;
 
+/* Why an id section is faulty, in the order in which it is tested. */
+enum {
+    SIGNALFERN_CUT_OFF = 1,     /* a block, its head or its data, ends after the bytes */
+    SIGNALFERN_BLOCK_ORDER = 2, /* a block's number is not above the one before, or above 32765 */
+    SIGNALFERN_PLACE_ORDER = 3, /* the places of a sparse block do not ascend */
+    SIGNALFERN_ONES = 4,        /* the ones of a dense block are not as many as its ids */
+    SIGNALFERN_RANK = 5,        /* a rank of a dense block is not the ones before its stride */
+    SIGNALFERN_END_BLOCK = 6,   /* the block numbered 32767 is not the end block */
+    SIGNALFERN_JUMPS = 7,       /* their count is another, or one is wrong or cut off */
+    SIGNALFERN_LEFT_OVER = 8    /* bytes follow the jump entries */
+};
+
+/* What signalfern_judge_section answers. Fields that a case does not name hold 0. */
+typedef struct {
+    uint64_t kind;   /* 0: accepted. 1: faulty. SIGNALFERN_HEADER: jump_count or power is not allowed. */
+    uint64_t number; /* Accepted: how many ids the section holds. */
+    uint64_t place;  /* Faulty: the start of the faulty block; of the first wrong or cut jump entry, or
+                        of all where their count is wrong; of the bytes left over. From 0. */
+    uint64_t reason; /* Faulty: 1 to 8, as above. */
+} signalfern_judgement;
+
 /*
  * Writes the column of the pairs (ids[i], values[i]) to the front of out.
  *
@@ -345,6 +366,19 @@ signalfern_reply signalfern_set_check(const uint8_t *bytes, size_t len);
 signalfern_member signalfern_set_find(const uint8_t *bytes, size_t len, uint32_t id);
 
 /*
+ * Judges a bare id section, without a header of ours, as another maker sends it: its bytes, how many
+ * jump entries it has, and its rank power.
+ *
+ * high_first 0: shorts, ints and longs are low byte first, as Lucene 9 writes them. Otherwise they are
+ * high byte first, as Lucene 8 does. Ranks are high byte first in both.
+ *
+ * Accepted: some list of ids, and just one, has this section with so many jump entries at this power.
+ * Faulty: the first fault, by the tests of the enum above, block by block.
+ */
+signalfern_judgement signalfern_judge_section(const uint8_t *bytes, size_t len, uint64_t jump_count,
+                                              uint64_t power, uint32_t high_first);
+
+/*
  * From here on plain C, not proved (c/names.c). No text is to be freed, and none is NULL.
  */
 
@@ -359,6 +393,12 @@ const char *signalfern_refusal_name(uint64_t refusal);
 
 /* A sentence that says what is wrong, without its full stop. */
 const char *signalfern_refusal_text(uint64_t refusal);
+
+/* The name of a reason for which a section is faulty, as "RANK"; "NONE" for 0, and "UNKNOWN". */
+const char *signalfern_reason_name(uint64_t reason);
+
+/* A sentence that says what is wrong, without its full stop. */
+const char *signalfern_reason_text(uint64_t reason);
 
 /* The smallest value of a column, from its header number `smallest`. */
 int64_t signalfern_smallest(uint64_t smallest);

@@ -93,6 +93,15 @@ pub(crate) struct Member {
     pub ordinal: u64,
 }
 
+#[repr(C)]
+#[derive(Clone, Copy)]
+pub(crate) struct Judgement {
+    pub kind: u64,
+    pub number: u64,
+    pub place: u64,
+    pub reason: u64,
+}
+
 extern "C" {
     fn signalfern_write(
         ids: *const u32,
@@ -163,6 +172,13 @@ extern "C" {
         -> Reply;
     fn signalfern_set_check(bytes: *const u8, len: usize) -> Reply;
     fn signalfern_set_find(bytes: *const u8, len: usize, id: u32) -> Member;
+    fn signalfern_judge_section(
+        bytes: *const u8,
+        len: usize,
+        jump_count: u64,
+        power: u64,
+        high_first: u32,
+    ) -> Judgement;
 }
 
 pub(crate) fn write(
@@ -291,4 +307,15 @@ pub(crate) fn set_check(bytes: &[u8]) -> Reply {
 pub(crate) fn set_find(bytes: &[u8], id: u32) -> Member {
     // SAFETY: a slice with its own length, only read.
     unsafe { signalfern_set_find(bytes.as_ptr(), bytes.len(), id) }
+}
+
+pub(crate) fn judge_section(
+    bytes: &[u8],
+    jump_count: u64,
+    power: u64,
+    high_first: bool,
+) -> Judgement {
+    let (start, len) = (bytes.as_ptr(), bytes.len());
+    // SAFETY: a slice with its own length, only read.
+    unsafe { signalfern_judge_section(start, len, jump_count, power, u32::from(high_first)) }
 }

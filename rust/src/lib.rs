@@ -60,6 +60,7 @@ mod next;
 mod page;
 mod pairs;
 mod refusal;
+mod section;
 mod set;
 
 pub use calls::{check, look_up, read, read_to_vecs, write, write_pairs, write_to_vec, Answer};
@@ -72,6 +73,7 @@ pub use next::{next, Candidate, Candidates, Cursor};
 pub use page::{look_up_page, look_up_page_to_vec, Page, PageAnswer};
 pub use pairs::Pairs;
 pub use refusal::Refusal;
+pub use section::{ByteOrder, Fault, Reason, Section};
 pub use set::{set_check, set_find, set_write, set_write_to_vec, Set};
 
 /// The greatest id.

@@ -186,6 +186,31 @@ static int sets(void)
     return 0;
 }
 
+static int same_judgement(signalfern_judgement j, uint64_t kind, uint64_t number, uint64_t place, uint64_t reason)
+{
+    return j.kind == kind && j.number == number && j.place == place && j.reason == reason;
+}
+
+/* Bare id sections in both byte orders: every field in every case, and any number for jump_count, power and high_first. */
+static int sections(void)
+{
+    PROMISE(sizeof(signalfern_judgement) == 32);
+    const uint8_t low[] = {0, 0, 1, 0, 2, 0, 7, 0, 0xFF, 0x7F, 0, 0, 0xFF, 0xFF, 9};
+    const uint8_t high[] = {0, 0, 0, 1, 0, 2, 0, 7, 0x7F, 0xFF, 0, 0, 0xFF, 0xFF};
+    PROMISE(same_judgement(signalfern_judge_section(low, 14, 0, 9, 0), 0, 2, 0, 0));
+    PROMISE(same_judgement(signalfern_judge_section(high, 14, 0, 9, 1), 0, 2, 0, 0));
+    PROMISE(same_judgement(signalfern_judge_section(high, 14, 0, 0, UINT32_MAX), 0, 2, 0, 0));
+    PROMISE(same_judgement(signalfern_judge_section(low, 15, 0, 9, 0), 1, 0, 14, SIGNALFERN_LEFT_OVER));
+    PROMISE(same_judgement(signalfern_judge_section(low, 14, 3, 9, 0), 1, 0, 14, SIGNALFERN_JUMPS));
+    PROMISE(same_judgement(signalfern_judge_section(low, 10, 0, 9, 0), 1, 0, 8, SIGNALFERN_CUT_OFF));
+    PROMISE(same_judgement(signalfern_judge_section(NULL, 0, 0, 9, 0), 1, 0, 0, SIGNALFERN_CUT_OFF));
+    PROMISE(same_judgement(signalfern_judge_section(low, 14, 32768, 9, 0), SIGNALFERN_HEADER, 0, 0, 0));
+    PROMISE(same_judgement(signalfern_judge_section(low, 14, UINT64_MAX, 9, 0), SIGNALFERN_HEADER, 0, 0, 0));
+    PROMISE(same_judgement(signalfern_judge_section(low, 14, 0, 6, 0), SIGNALFERN_HEADER, 0, 0, 0));
+    PROMISE(same_judgement(signalfern_judge_section(low, 14, 0, UINT64_MAX, 0), SIGNALFERN_HEADER, 0, 0, 0));
+    return 0;
+}
+
 static int next_candidates(void)
 {
     PROMISE(sizeof(signalfern_cursor) == 4);
@@ -382,5 +407,5 @@ int main(void)
     refused.refusal = SIGNALFERN_LENGTH;
     PROMISE(memcmp(&column, &refused, sizeof column) == 0);
     PROMISE(same_answer(signalfern_look_up_in(column, out, len, 4), SIGNALFERN_HEADER, 0, 0, 0, 0));
-    return editions() || pages() || next_candidates() || corrections() || refused_columns() || sets();
+    return editions() || pages() || next_candidates() || corrections() || refused_columns() || sets() || sections();
 }

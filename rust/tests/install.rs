@@ -12,7 +12,7 @@ use std::path::{Path, PathBuf};
 use std::process::{Command, Output};
 
 use common::tool::Folder;
-use signalfern::Refusal;
+use signalfern::{Reason, Refusal};
 
 const VERSION: &str = env!("CARGO_PKG_VERSION");
 
@@ -123,7 +123,8 @@ fn build(compiler: &str, language: &[&str], link: &[String], program: &str) -> O
     Some(())
 }
 
-/// The version, and each refusal with its name and its sentence, as the Rust package has them.
+/// The version, and each refusal and each reason with its name and its sentence, as the Rust package has
+/// them.
 fn check_printed(printed: &str) {
     let mut lines = printed.lines();
     assert_eq!(lines.next(), Some(VERSION));
@@ -134,6 +135,11 @@ fn check_printed(printed: &str) {
         // C tells the number with a refusal apart from its sentence.
         let (text, ours) = (words.next().unwrap(), refusal.to_string());
         assert_eq!(text == ours, !ours.contains("4321"), "{text} / {ours}");
+    }
+    for reason in Reason::EACH {
+        let (number, name) = (reason.number(), reason.name());
+        let expected = format!("reason {number} {name} {reason}");
+        assert_eq!(lines.next(), Some(expected.as_str()));
     }
     assert_eq!(lines.next(), None);
 }
@@ -203,7 +209,7 @@ fn the_shared_library_shows_what_the_header_declares() {
         .filter_map(|before| before.rsplit([' ', '*']).next())
         .filter(|name| name.starts_with("signalfern_"))
         .collect();
-    assert_eq!(declared.len(), 19, "{declared:?}");
+    assert_eq!(declared.len(), 22, "{declared:?}");
 
     let symbols = |words: &[&str], file: &str| {
         let output = Command::new("nm")

@@ -70,6 +70,11 @@ int main(void)
     signalfern_part part = signalfern_layered_values(NULL, 0, column, len, 7);
     PROMISE(part.column == SIGNALFERN_CORRECTION && part.start + part.len == len && part.len == opened.value_bytes);
 
+    signalfern_judgement judged = signalfern_judge_section(column + opened.start, opened.id_bytes, opened.jump_count,
+                                                           opened.power, 0);
+    PROMISE(judged.kind == 0 && judged.number == 3);
+    PROMISE(strcmp(signalfern_reason_name(0), "NONE") == 0 && strcmp(signalfern_reason_name(9), "UNKNOWN") == 0);
+    PROMISE(strlen(signalfern_reason_text(0)) > 0 && strlen(signalfern_reason_text(UINT64_MAX)) > 0);
     reply = signalfern_set_write(ids, 3, column, sizeof column);
     PROMISE(reply.refusal == 0);
     len = reply.number;
@@ -82,5 +87,7 @@ int main(void)
             continue;
         printf("%" PRIu64 " %s %s\n", refusal, signalfern_refusal_name(refusal), signalfern_refusal_text(refusal));
     }
+    for (uint64_t reason = 1; reason <= 8; reason++)
+        printf("reason %" PRIu64 " %s %s\n", reason, signalfern_reason_name(reason), signalfern_reason_text(reason));
     return 0;
 }

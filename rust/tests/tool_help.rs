@@ -6,8 +6,8 @@ use std::process::Command;
 
 use common::tool::{has_program, run, Folder};
 
-const COMMANDS: [&str; 10] = [
-    "write", "check", "read", "look-up", "next", "audit", "show", "set", "demo", "help",
+const COMMANDS: [&str; 11] = [
+    "write", "check", "read", "look-up", "next", "audit", "show", "judge", "set", "demo", "help",
 ];
 
 #[test]

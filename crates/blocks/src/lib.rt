@@ -4,6 +4,7 @@ ghost use Prim.Native.Nat.{_+_, _-_, _*_, _/_, _%_, _^_, _≤_, _<_};
 ghost use lib.ListN.{length};
 ghost use lib.Count.{ones, onesIn};
 ghost use Rattle.format.specs.Limits.{Power, blockPlaces, bitmapLongs};
+ghost use Rattle.format.specs.Bytes.{lowAt};
 ghost use Rattle.format.specs.Ids.{kindOf, rankBytes, dataBytes, blockBytes};
 ghost use Rattle.format.specs.LookUp.{onesFrom};
 ghost use Rattle.blocks.specs.Kinds.{kindIs};
@@ -123,6 +124,14 @@ pub fn ones_of(w: u64) -> u64
     numbers::wide32(u64::count_ones(w))
 }
 
+// The ones of long i of those at m.
+fn ones_at(s: &[u8], m: usize, i: usize) -> u64
+    requires { ⌜ m + 8 * (i + 1) ≤ length (now s) ⌝ }
+    ensures { λ r. ⌜ (r ≡ onesIn 64 (lowAt 8 (now (s .entry)) (m + 8 * i))) × (r ≤ 64) ⌝ }
+{
+    ones_of(numbers::long_at(s, m + 8 * i))
+}
+
 // The ones of n longs from long `first` on, of those at m.
 pub fn ones_from(s: &[u8], m: usize, n: usize, first: usize) -> u64
     requires { ⌜ (m + 8 * (first + n) ≤ length (now s)) × (n ≤ bitmapLongs) ⌝ }
@@ -131,8 +140,33 @@ pub fn ones_from(s: &[u8], m: usize, n: usize, first: usize) -> u64
     let mut sum: u64 = 0;
     let mut i = 0;
     while i < n {
-        sum += ones_of(numbers::long_at(s, m + 8 * (first + i)));
+        sum += ones_at(s, m, first + i);
         i += 1;
     }
     sum
+}
+
+fn four_ones(s: &[u8], m: usize, first: usize) -> u64
+    requires { ⌜ m + 8 * (first + 4) ≤ length (now s) ⌝ }
+    ensures { λ r. ⌜ (r ≡ onesFrom (now (s .entry)) m 4 first) × (r ≤ 256) ⌝ }
+{
+    ones_at(s, m, first)
+        + ones_at(s, m, first + 1)
+        + ones_at(s, m, first + 2)
+        + ones_at(s, m, first + 3)
+}
+
+// The ones of a stride's longs, `first` on. At power 9, which is Lucene's, they are eight and need no loop; above 7 a multiple of four, and the loop
+// over them leaves none for a second one.
+pub fn stride_ones(s: &[u8], m: usize, p: usize, first: usize) -> u64
+    requires { ⌜ (7 ≤ p) × (p ≤ 15) × (m + 8 * (first + 2 ^ (p - 6)) ≤ length (now s)) ⌝ }
+    ensures { λ r. ⌜ (r ≡ onesFrom (now (s .entry)) m (2 ^ (p - 6)) first) × (r ≤ 64 * 2 ^ (p - 6)) ⌝ }
+{
+    if p == 7 {
+        return ones_from(s, m, 2, first);
+    }
+    if p == 9 {
+        return four_ones(s, m, first) + four_ones(s, m, first + 4);
+    }
+    ones_from(s, m, 4 * numbers::size(numbers::pow2(p - 8)), first)
 }

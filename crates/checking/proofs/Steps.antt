@@ -7,15 +7,17 @@ use Rattle.format.specs.Editions.{editions}
 use Rattle.format.specs.Column.{Head}
 use Rattle.format.specs.Opening.{Opened, openColumn, idPart, valuePart}
 use Rattle.format.specs.Check.{accepted, check}
-use Rattle.judge.specs.Judge.{judge}
+use Rattle.format.specs.Orders.{lowByte}
+use Rattle.format.specs.Judge.{judge}
 use Rattle.format.proofs.Open.{sound}
 use Rattle.format.proofs.Unique.{OnlyBy, accepted-only}
 use Rattle.values.specs.Edition.{tests}
 use Rattle.checking.specs.Tests.{holds, idsOk, columnOk, isTaken}
 
-pub ids-judged : (h : Head) (s : List ℕ) (p j : ℕ) → p ≡ h .power → j ≡ h .jumpCount → (o : Outcome ℕ) → judge p j s ≡ o → idsOk h s ≡ holds (h .count) o
+pub ids-judged : (h : Head) (s : List ℕ) (p j : ℕ) → p ≡ h .power → j ≡ h .jumpCount → (o : Outcome ℕ) → judge lowByte p j s ≡ o
+    → idsOk h s ≡ holds (h .count) o
 unfolding idsOk
-ids-judged h s p j ep ej o e = ap (holds (h .count)) (ap₂ (λ (x y : ℕ). judge x y s) (sym ep) (sym ej) ∙ e)
+ids-judged h s p j ep ej o e = ap (holds (h .count)) (ap₂ (λ (x y : ℕ). judge lowByte x y s) (sym ep) (sym ej) ∙ e)
 
 -- ---- the parts, by the code's own numbers
 

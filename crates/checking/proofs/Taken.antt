@@ -1,6 +1,6 @@
 -- An opened column passes the tests exactly if the definition accepts it: the tests give the two halves, ids and values, and are given by
 -- them. Assumes nothing.
-use Rattle.format.specs.Kit.{_≡_, refl, sym, ap, ap₂, _∙_, Bool, true, false, List, ℕ, arith, drop, eqb-true, eq-eqb}
+use Rattle.format.specs.Kit.{_≡_, refl, sym, ap, Bool, true, false, List, ℕ, arith, drop, eqb-true, eq-eqb}
 use Rattle.format.specs.Limits.{Power}
 use Rattle.format.specs.Refusals.{Outcome, done, refused}
 use Rattle.format.specs.Pairs.{Pairs, Below}
@@ -12,9 +12,10 @@ use Rattle.format.proofs.Tests.{both-true, true-both}
 use Rattle.format.proofs.Digits.{below-drop, below-take}
 use Rattle.format.proofs.Open.{sound}
 use Rattle.format.proofs.Editions.{lawful-reader}
-use Rattle.format.proofs.Halves.{SectionOf, halves-accepted, accepted-halves, kept}
-use Rattle.judge.specs.Judge.{judge}
-use Rattle.judge.proofs.Judged.{judge-sound, judge-complete}
+use Rattle.format.proofs.Halves.{halves-accepted, accepted-halves, kept}
+use Rattle.format.specs.Orders.{lowByte}
+use Rattle.format.specs.Judge.{judge}
+use Rattle.judge.proofs.LowFirst.{judge-sound, judge-complete}
 use Rattle.values.specs.Edition.{tests}
 use Rattle.values.proofs.Tests.{tested}
 use Rattle.checking.specs.Tests.{holds, idsOk, columnOk, isTaken}
@@ -35,11 +36,6 @@ true-holds : (n : ℕ) (o : Outcome ℕ) → o ≡ done n → holds n o ≡ true
 unfolding holds
 true-holds n o e = rw e (eq-eqb n n refl)
 
-pub judged : (p : ℕ) → Power p → (j : ℕ) (s : List ℕ) (n : ℕ) → SectionOf p j s n → judge p j s ≡ done n
-judged p ok j s n i =
-    ap₂ (judge p) (sym (i .entries)) (sym (i .bytes)) ∙ judge-complete p ok (i .ids) (i .ascending) (i .range)
-    ∙ ap {B = Outcome ℕ} (λ (k : ℕ). done k) (i .count)
-
 -- ---- an opened column
 
 module _ (bytes : List ℕ) (c : Opened) (u : Below 256 bytes) (opens : openColumn editions bytes ≡ done c) where
@@ -56,7 +52,7 @@ module _ (bytes : List ℕ) (c : Opened) (u : Below 256 bytes) (opens : openColu
   taken : columnOk bytes c ≡ true → isTaken (accepted bytes c) ≡ true
   unfolding columnOk idsOk isTaken
   taken t =
-      let b = both-true (holds (hd .count) (judge (hd .power) (hd .jumpCount) (idPart bytes c)))
+      let b = both-true (holds (hd .count) (judge lowByte (hd .power) (hd .jumpCount) (idPart bytes c)))
       (tests (hd .edition) (hd .count) (hd .fields) (valuePart bytes c)) t in
       let i = judge-sound (hd .power) power (hd .jumpCount) (idPart bytes c) (hd .count) below-ids (holds-true (hd .count) _ (b .0)) in
       let v = tested (hd .edition) .sound (hd .count) (hd .fields) (valuePart bytes c) (kept editions bytes c u opens) (b .1) in
@@ -66,7 +62,7 @@ module _ (bytes : List ℕ) (c : Opened) (u : Below 256 bytes) (opens : openColu
   unfolding columnOk idsOk
   passes q a =
       let r = accepted-halves editions (lawful-reader editions) bytes c u opens q a in
-      true-both _ _ (true-holds (hd .count) _ (judged (hd .power) power (hd .jumpCount) (idPart bytes c) (hd .count) (r .0)))
+      true-both _ _ (true-holds (hd .count) _ (judge-complete (hd .power) power (hd .jumpCount) (idPart bytes c) (hd .count) (r .0)))
       (tested (hd .edition) .complete (hd .count) (hd .fields) (valuePart bytes c) (kept editions bytes c u opens) (r .1))
 
   taken-back : isTaken (accepted bytes c) ≡ true → columnOk bytes c ≡ true

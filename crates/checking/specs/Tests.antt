@@ -5,7 +5,8 @@ use Rattle.format.specs.Refusals.{Outcome, done, refused}
 use Rattle.format.specs.Pairs.{Pairs}
 use Rattle.format.specs.Column.{Head}
 use Rattle.format.specs.Opening.{Opened, idPart, valuePart}
-use Rattle.judge.specs.Judge.{judge}
+use Rattle.format.specs.Orders.{lowByte}
+use Rattle.format.specs.Judge.{judge}
 use Rattle.values.specs.Edition.{tests}
 
 -- the judge accepts n ids
@@ -14,7 +15,7 @@ holds n (done m) = eqb m n
 holds n (refused why at) = false
 
 unfoldable pub idsOk : Head → List ℕ → Bool
-idsOk h s = holds (h .count) (judge (h .power) (h .jumpCount) s)
+idsOk h s = holds (h .count) (judge lowByte (h .power) (h .jumpCount) s)
 
 unfoldable pub columnOk : List ℕ → Opened → Bool
 columnOk bytes c =

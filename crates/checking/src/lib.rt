@@ -1,4 +1,4 @@
-// The check of a column (document 01, "Refusal numbers": 7 to 11, then 13).
+// The check of a column (document 01, "Refusal numbers": 7 to 11, then 13). The judgement of a bare id section stands in section.rt.
 ghost use mathlib.Core.Path.{_≡_};
 ghost use Rattle.format.specs.Refusals.{done};
 ghost use Rattle.format.specs.Editions.{editions};
@@ -11,9 +11,12 @@ ghost use Rattle.checking.specs.Tests.{idsOk, isTaken};
 use column::Column;
 use column::Head;
 use column::Opening;
+use format::ByteOrder;
 use format::Refusal;
 use format::Reply;
 use section_check::Verdict;
+
+pub mod section;
 
 // Whether an id section is judged to hold the header's count of ids.
 fn ids_ok(section: &[u8], h: Head) -> bool
@@ -22,7 +25,7 @@ fn ids_ok(section: &[u8], h: Head) -> bool
 {
     let p = numbers::size(h.power);
     let j = numbers::size(h.jump_count);
-    match section_check::judge(section, p, j) {
+    match section_check::judge(section, ByteOrder::LowFirst, p, j) {
         Verdict::Accepted(n) => n == h.count,
         Verdict::Faulty(_, _) => false,
     }

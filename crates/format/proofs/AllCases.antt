@@ -14,6 +14,7 @@ use Rattle.format.proofs.PinsProbes.{HalvingCases, halving-cases, Probe
 use Rattle.format.proofs.PinsTaken.{TakenCases, taken-cases}
 use Rattle.format.proofs.PinsPage.{PageCases, page-cases}
 use Rattle.format.proofs.PinsLucene.{LowCases, low-cases, LuceneCases, lucene-cases, ToldCases, told-cases}
+use Rattle.format.proofs.PinsJudge.{JudgeCases, judge-cases, DenseJudgeCases, dense-judge-cases}
 
 pub record AllCases : Type 0 where
   pub starred-table : Starred
@@ -40,6 +41,8 @@ pub record AllCases : Type 0 where
   pub low-table : LowCases
   pub lucene-table : LuceneCases
   pub told-table : ToldCases
+  pub judge-table : JudgeCases
+  pub dense-judge-table : DenseJudgeCases
 
 pub all-cases : AllCases
 all-cases =
@@ -68,4 +71,6 @@ all-cases =
       low-table = low-cases;
       lucene-table = lucene-cases;
       told-table = told-cases;
+      judge-table = judge-cases;
+      dense-judge-table = dense-judge-cases;
     }

@@ -26,6 +26,9 @@ use Rattle.format.specs.SetBytes.{setKind, begins, past, missing, setLis
 use Rattle.format.specs.SetCalls.{listLengthOk, setDataBytes, setDataFits, setDataOk, setPlaces, dataFrom, lengthFrom, kindFrom, blockFrom, setRun}
 use Rattle.format.specs.SetCalls.{blocksFrom, setIds, setCheck, memberIn, setFind}
 use Rattle.format.specs.Page.{placeKind, placeOrdinal, placeValue, placeWords, page, pageWords, pageReply, pageAfter}
+use Rattle.format.specs.Orders.{fixedAt, numbersIn, endIn, entryIn}
+use Rattle.format.specs.Judge.{ranksFrom, placesOk, onesOk, ranksOk, firstFailed, testsAt, unlessFault, judgeFrom, jumpsAt, jumpsIn, judgeEntries}
+use Rattle.format.specs.Judge.{judgeRest, judge, judgeSection}
 
 unfoldable pub computing : Type 0
 unfolding bind onesIn andThen need given needNone bytesOf countFrom digits same fromDigits lowAt highAt groups number above readGroups readNumber
@@ -38,5 +41,6 @@ unfolding bind onesIn andThen need given needNone bytesOf countFrom digits same 
     listedPlaces probes decides inTurn nextSteps next nextIn lastAfter firstFrom listNext inSequence ascFrom setKind begins past missing setList
     setData setBlockAs setBlock setBytes setWrite listLengthOk setDataBytes setDataFits setDataOk setPlaces dataFrom lengthFrom kindFrom blockFrom
     setRun blocksFrom setIds setCheck listed memberIn setFind placeKind placeOrdinal placeValue placeWords page pageWords pageReply pageAfter bitLow
-    gatherLow packedLow bitLowAt fetchedLow luceneWidths firstEnough among lowFirst write
+    gatherLow packedLow bitLowAt fetchedLow luceneWidths firstEnough among lowFirst fixedAt numbersIn endIn entryIn ranksFrom placesOk onesOk ranksOk
+    firstFailed testsAt unlessFault judgeFrom jumpsAt jumpsIn judgeEntries judgeRest judge judgeSection write
 computing = Unit {0}

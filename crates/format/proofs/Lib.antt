@@ -14,6 +14,7 @@ pub mod PinsSets
 pub mod PinsTaken
 pub mod PinsPage
 pub mod PinsLucene
+pub mod PinsJudge
 pub mod Demands
 pub mod Meaning
 pub mod MeaningValues

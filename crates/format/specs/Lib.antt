@@ -25,6 +25,8 @@ pub mod Layered
 pub mod SetBytes
 pub mod SetCalls
 pub mod Page
+pub mod Orders
+pub mod Judge
 pub mod Replies
 pub mod Runs
 pub mod Stores

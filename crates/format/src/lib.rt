@@ -2,7 +2,7 @@
 // the types of the library's answers; specs/Replies.antt gives the paper's number for each of their cases.
 ghost use mathlib.Core.Path.{_≡_};
 ghost use Rattle.format.specs.Next.{newCursor};
-ghost use Rattle.format.specs.Replies.{refusalNumber, refusalWith};
+ghost use Rattle.format.specs.Replies.{refusalNumber, refusalWith, reasonNumber};
 
 // Document 01's refusals, and document 02's BACK ([1]), each with the number that goes with it, where that is not always 0; for SHORT and
 // NUMBER it is document 02's ([4]). There is no OFFSET, which cannot happen (document 02, [7]).
@@ -79,6 +79,33 @@ pub enum Member {
     Refused(Refusal),
 }
 
+// The byte order of an id section's shorts, ints and longs (document 02, [9]): low byte first as Lucene 9 writes them, or high byte first
+// as Lucene 8 does.
+pub enum ByteOrder {
+    LowFirst,
+    HighFirst,
+}
+
+// Why an id section is faulty, in the order in which document 02, [9] tests it.
+pub enum Reason {
+    CutOff,
+    BlockOrder,
+    PlaceOrder,
+    OnesUnlike,
+    RankWrong,
+    EndWrong,
+    JumpWrong,
+    LeftOver,
+}
+
+// What the judge of an id section answers: the number of ids; a reason and the fault's place in the section; or that the entry count or
+// the power is outside document 01's limits.
+pub enum Judgement {
+    Accepted(u64),
+    Faulty(Reason, u64),
+    Header,
+}
+
 // What the header says of the values, in the words of its edition: the numbers 6 to 8 (the smallest value as its header number).
 pub struct Fields {
     pub width: u64,
@@ -137,6 +164,24 @@ impl Refusal {
             Refusal::Id => 0,
             Refusal::Broken => 0,
             Refusal::Back => 0,
+        }
+    }
+}
+
+impl Reason {
+    // The reason's number, 1 to 8.
+    pub fn number(self) -> u64
+        ensures { λ r. ⌜ r ≡ reasonNumber self ⌝ }
+    {
+        match self {
+            Reason::CutOff => 1,
+            Reason::BlockOrder => 2,
+            Reason::PlaceOrder => 3,
+            Reason::OnesUnlike => 4,
+            Reason::RankWrong => 5,
+            Reason::EndWrong => 6,
+            Reason::JumpWrong => 7,
+            Reason::LeftOver => 8,
         }
     }
 }

@@ -12,8 +12,7 @@ use Rattle.format.specs.Check.{allValues, accepted, idsAfter, valuesAfter}
 use Rattle.format.proofs.Open.{sound}
 use Rattle.format.proofs.Editions.{lawful, lawful-reader}
 use Rattle.format.proofs.Halves.{halves-accepted, accepted-halves, values-decoded, kept}
-use Rattle.judge.proofs.Judged.{section-decoded}
-use Rattle.checking.proofs.Taken.{judged}
+use Rattle.judge.proofs.LowFirst.{judge-complete, section-decoded}
 use Rattle.id_reader.specs.Placed.{Accepted}
 use Rattle.reader.specs.Answered.{Whole}
 
@@ -45,7 +44,7 @@ module _ (bytes : List ℕ) (c : Opened) (u : Below 256 bytes) (w : Whole bytes 
       let p : Power (h .power) = s .facts .power in
       record {
         sound = s;
-        section = record { entries = h .jumpCount; count = h .count; judged = judged (h .power) p (h .jumpCount) (idPart bytes c) (h .count) i };
+        section = record { entries = h .jumpCount; count = h .count; judged = judge-complete (h .power) p (h .jumpCount) (idPart bytes c) (h .count) i };
         ids = section-decoded (h .power) p (h .jumpCount) (idPart bytes c) (h .count) i ∙ ap (λ (x : Pairs). x .ids) same;
         ids-long = ap (λ (x : Pairs). length (x .ids)) (sym same) ∙ i .count;
         values =

@@ -1,17 +1,18 @@
 -- The turns of the loops over a block: what was found right so far, with the tests that are left, is what all the tests give. Assumes nothing.
 use Rattle.format.specs.Kit.{_≡_, refl, sym, ap, ap₂, _∙_, Bool, true, false, cond, _&&_, and-true, and-assoc, List, ℕ, suc, _+_, _-_, _*_, _/_, _^_}
-use Rattle.format.specs.Kit.{_<_, _≤_, pow-add, arith, add-one, eqb, leb, ltb, drop, ltb-true, ltb-false, le-leb, lt-leb}
+use Rattle.format.specs.Kit.{_∷_, _<_, _≤_, pow-add, arith, add-one, eqb, leb, ltb, drop, drop-drop, ltb-true, ltb-false, le-leb, lt-leb}
 use Rattle.format.specs.Limits.{Power}
-use Rattle.format.specs.Bytes.{lowAt, highAt}
+use Rattle.format.specs.Bytes.{highAt}
 use Rattle.format.specs.Ids.{byKind, rankBytes}
-use Rattle.format.specs.IdsRead.{shorts}
 use Rattle.format.specs.LookUp.{onesFrom}
+use Rattle.format.specs.Orders.{Order, fixedAt, numbersIn}
+use Rattle.format.specs.Pairs.{ascFrom}
+use Rattle.format.specs.Judge.{ranksFrom, placesOk, onesOk, ranksOk, onesUnlike, rankWrong}
 use Rattle.format.proofs.Cases.{below-or}
-use Rattle.format.proofs.Standing.{short-next}
 use Rattle.format.proofs.Blocks.{kind-sparse, kind-dense, kind-all}
-use Rattle.judge.specs.Judge.{ascFrom, ranksFrom, placesOk, onesOk, ranksOk, onesUnlike, rankWrong}
 use Rattle.format.proofs.Sizes.{ranks-none, ranks-some}
 use Rattle.judge.proofs.Held.{ranks-zero}
+use Rattle.section_check.specs.Reasons.{wordsReason}
 
 -- ---- shorts that ascend
 
@@ -22,35 +23,46 @@ ltb-leb a b = go (ltb a b) refl
     go true e = let h : a < b = ltb-true a b e in sym (le-leb (a + 1) b (omega arith))
     go false e = let h : b ≤ a = ltb-false a b e in sym (lt-leb (a + 1) b (omega arith))
 
-asc-on : (s : List ℕ) (t c i a : ℕ) → i < c
-    → ascFrom a (shorts (c - i) (drop (t + 2 * i) s))
-    ≡ (leb a (lowAt 2 s (t + 2 * i)) && ascFrom (lowAt 2 s (t + 2 * i) + 1) (shorts (c - (i + 1)) (drop (t + 2 * (i + 1)) s)))
-unfolding ascFrom
-asc-on s t c i a h = rw (short-next s t c i h, add-one (lowAt 2 s (t + 2 * i)))
+module _ (ord : Order) (s : List ℕ) (t c : ℕ) where
+  short-next : (i : ℕ) → i < c
+      → numbersIn ord 2 (c - i) (drop (t + 2 * i) s) ≡ fixedAt ord 2 s (t + 2 * i) ∷ numbersIn ord 2 (c - (i + 1)) (drop (t + 2 * (i + 1)) s)
+  unfolding numbersIn fixedAt
+  short-next i h =
+      let e : c - i ≡ suc (c - (i + 1)) = omega arith in
+      let f : t + 2 * i + 2 ≡ t + 2 * (i + 1) = omega arith in
+      rw (e, drop-drop 2 (t + 2 * i) s, f)
 
--- one more neighbour, x after y
-pub asc-turn : (s : List ℕ) (t c i y x : ℕ) (right q : Bool) → i < c → x ≡ lowAt 2 s (t + 2 * i) → y ≡ lowAt 2 s (t + 2 * (i - 1)) → q ≡ (right && ltb y x)
-    → (right && ascFrom (lowAt 2 s (t + 2 * (i - 1)) + 1) (shorts (c - i) (drop (t + 2 * i) s)))
-    ≡ (q && ascFrom (lowAt 2 s (t + 2 * (i + 1 - 1)) + 1) (shorts (c - (i + 1)) (drop (t + 2 * (i + 1)) s)))
-asc-turn s t c i y x right q h ex ey eq =
-    let e : i + 1 - 1 ≡ i = omega arith in
-    rw (← ey, asc-on s t c i (y + 1) h, e, ← ex, eq, ltb-leb) (sym (and-assoc right _ _))
+  asc-on : (i a : ℕ) → i < c
+      → ascFrom a (numbersIn ord 2 (c - i) (drop (t + 2 * i) s))
+      ≡ (leb a (fixedAt ord 2 s (t + 2 * i)) && ascFrom (fixedAt ord 2 s (t + 2 * i) + 1) (numbersIn ord 2 (c - (i + 1)) (drop (t + 2 * (i + 1)) s)))
+  unfolding ascFrom
+  asc-on i a h = rw (short-next i h, add-one (fixedAt ord 2 s (t + 2 * i)))
 
-asc-nil : (n a : ℕ) (l : List ℕ) → n ≡ 0 → ascFrom a (shorts n l) ≡ true
-unfolding ascFrom shorts
-asc-nil n a l e = rw e
+  -- one more neighbour, x after y
+  pub asc-turn : (i y x : ℕ) (right q : Bool) → i < c → x ≡ fixedAt ord 2 s (t + 2 * i) → y ≡ fixedAt ord 2 s (t + 2 * (i - 1)) → q ≡ (right && ltb y x)
+      → (right && ascFrom (fixedAt ord 2 s (t + 2 * (i - 1)) + 1) (numbersIn ord 2 (c - i) (drop (t + 2 * i) s)))
+      ≡ (q && ascFrom (fixedAt ord 2 s (t + 2 * (i + 1 - 1)) + 1) (numbersIn ord 2 (c - (i + 1)) (drop (t + 2 * (i + 1)) s)))
+  asc-turn i y x right q h ex ey eq =
+      let e : i + 1 - 1 ≡ i = omega arith in
+      rw (← ey, asc-on i (y + 1) h, e, ← ex, eq, ltb-leb) (sym (and-assoc right _ _))
 
-pub asc-end : (s : List ℕ) (t c i a : ℕ) (right : Bool) → c ≤ i → (right && ascFrom a (shorts (c - i) (drop (t + 2 * i) s))) ≡ right
-asc-end s t c i a right h = rw (asc-nil (c - i) a (drop (t + 2 * i) s) (omega arith)) (and-true right)
+  asc-nil : (n a : ℕ) (l : List ℕ) → n ≡ 0 → ascFrom a (numbersIn ord 2 n l) ≡ true
+  unfolding ascFrom numbersIn
+  asc-nil n a l e = rw e
 
-pub asc-begin : (s : List ℕ) (t c y : ℕ) → y ≡ lowAt 2 s (t + 2 * 0)
-    → ascFrom 0 (shorts c (drop t s)) ≡ ascFrom (y + 1) (shorts (c - 1) (drop (t + 2 * 1) s))
-asc-begin s t c y q =
-    let e : c ≡ c - 0 = omega arith in
-    let f : t ≡ t + 2 * 0 = omega arith in
-    below-or 0 c
-    (λ h. ap₂ (λ (x y : ℕ). ascFrom 0 (shorts x (drop y s))) e f ∙ asc-on s t c 0 0 h ∙ rw (le-leb 0 (lowAt 2 s (t + 2 * 0)) (omega arith), q))
-    (λ h. asc-nil c 0 (drop t s) (omega arith) ∙ sym (asc-nil (c - 1) (y + 1) (drop (t + 2 * 1) s) (omega arith)))
+  pub asc-end : (i a : ℕ) (right : Bool) → c ≤ i → (right && ascFrom a (numbersIn ord 2 (c - i) (drop (t + 2 * i) s))) ≡ right
+  asc-end i a right h = rw (asc-nil (c - i) a (drop (t + 2 * i) s) (omega arith)) (and-true right)
+
+  pub asc-begin : (y : ℕ) → y ≡ fixedAt ord 2 s (t + 2 * 0)
+      → ascFrom 0 (numbersIn ord 2 c (drop t s)) ≡ ascFrom (y + 1) (numbersIn ord 2 (c - 1) (drop (t + 2 * 1) s))
+  asc-begin y q =
+      let e : c ≡ c - 0 = omega arith in
+      let f : t ≡ t + 2 * 0 = omega arith in
+      below-or 0 c
+      (λ h.
+      ap₂ (λ (x y : ℕ). ascFrom 0 (numbersIn ord 2 x (drop y s))) e f ∙ asc-on 0 0 h
+      ∙ rw (le-leb 0 (fixedAt ord 2 s (t + 2 * 0)) (omega arith), q))
+      (λ h. asc-nil c 0 (drop t s) (omega arith) ∙ sym (asc-nil (c - 1) (y + 1) (drop (t + 2 * 1) s) (omega arith)))
 
 -- ---- ranks
 
@@ -77,29 +89,25 @@ strides-all p j h e q =
 
 -- ---- by kind
 
-pub places-sparse : (s : List ℕ) (t c : ℕ) → c < 4096 → placesOk s t c ≡ ascFrom 0 (shorts c (drop t s))
+pub places-sparse : (ord : Order) (s : List ℕ) (t c : ℕ) → c < 4096 → placesOk ord s t c ≡ ascFrom 0 (numbersIn ord 2 c (drop t s))
 unfolding placesOk byKind
-places-sparse s t c h = rw (kind-sparse c h)
+places-sparse ord s t c h = rw (kind-sparse c h)
 
-pub places-more : (s : List ℕ) (t c : ℕ) → 4096 ≤ c → placesOk s t c ≡ true
+pub places-more : (ord : Order) (s : List ℕ) (t c : ℕ) → 4096 ≤ c → placesOk ord s t c ≡ true
 unfolding placesOk byKind
-places-more s t c h = below-or c 65536 (λ k. rw (kind-dense c h k)) (λ k. rw (kind-all c k))
+places-more ord s t c h = below-or c 65536 (λ k. rw (kind-dense c h k)) (λ k. rw (kind-all c k))
 
 module _ (p : ℕ) (s : List ℕ) (t c : ℕ) where
-  -- the reason of a block's longs
-  abbrev pub wordsReason : ℕ
-  wordsReason = cond (onesOk p s t c) (cond (ranksOk p s t c) 0 rankWrong) onesUnlike
-
-  pub words-sparse : c < 4096 → 0 ≡ wordsReason
+  pub words-sparse : c < 4096 → 0 ≡ wordsReason p s t c
   unfolding onesOk ranksOk byKind
   words-sparse h = rw (kind-sparse c h)
 
-  pub words-whole : 65536 ≤ c → 0 ≡ wordsReason
+  pub words-whole : 65536 ≤ c → 0 ≡ wordsReason p s t c
   unfolding onesOk ranksOk byKind
   words-whole h = rw (kind-all c h)
 
   pub words-dense : 4096 ≤ c → c < 65536 → (n : ℕ) (r : Bool) → n ≡ onesFrom s (t + rankBytes p) 1024 0
-      → r ≡ ranksFrom (rankBytes p / 2) p s t (t + rankBytes p) 0 → cond (eqb n c) (cond r 0 rankWrong) onesUnlike ≡ wordsReason
+      → r ≡ ranksFrom (rankBytes p / 2) p s t (t + rankBytes p) 0 → cond (eqb n c) (cond r 0 rankWrong) onesUnlike ≡ wordsReason p s t c
   unfolding onesOk ranksOk byKind
   words-dense h k n r en er = rw (kind-dense c h k, ← en, ← er)
 

@@ -1,15 +1,17 @@
--- Bytes compared as numbers. Assumes nothing.
-use Rattle.format.specs.Kit.{_≡_, refl, sym, ap, ap₂, _∙_, Bool, true, false, List, ℕ, zero, suc, _+_, _*_, _/_, _^_, _<_, _≤_, mod-eq-of-lt, arith}
-use Rattle.format.specs.Kit.{eqb, lit<, length, take, drop, getD, length-drop, length-take, length-take-le, eq-eqb, ne-eqb}
-use Rattle.format.specs.Bytes.{digits, fromDigits, low, fromLow, same, lowAt}
-use Rattle.format.specs.Ids.{Entry, entryBytes, endBlock}
+-- Bytes compared as numbers, in either byte order. Assumes nothing.
+use Rattle.format.specs.Kit.{_≡_, refl, sym, ap, ap₂, _∙_, Bool, true, false, _&&_, and-assoc, List, [], _∷_, _++_, ℕ, _+_, _^_, _<_, _≤_, arith, eqb}
+use Rattle.format.specs.Kit.{lit<, length, take, drop, getD, length-append, length-drop, length-take, length-take-le, take-add, drop-drop, eq-eqb, ne-eqb}
+use Rattle.format.specs.Limits.{endNumber}
+use Rattle.format.specs.Bytes.{same}
+use Rattle.format.specs.Ids.{Entry}
+use Rattle.format.specs.Orders.{Order, bytesIn, numberIn, fixedAt, endIn, entryIn}
 use Rattle.format.specs.Pairs.{Below}
 use Rattle.format.proofs.Cases.{equal-or}
-use Rattle.format.proofs.Section.{entry-eight}
-use Rattle.format.proofs.Digits.{digits-from, from-digits, from-append, length-digits, below-append, below-take, below-drop, below-all}
+use Rattle.format.proofs.Digits.{below-take, below-drop, below-all}
 use Rattle.format.proofs.RoundTrip.{same-refl}
 use Rattle.format.proofs.Unique.{same-eq}
-use Rattle.numbers.proofs.Shorts.{low-add}
+use Rattle.judge.proofs.Numbers.{length-in, number-back, bytes-back}
+use Rattle.judge.proofs.Standing.{entry-eight}
 
 differ : (l m : List ℕ) → (l ≡ m → ⊥) → same l m ≡ false
 differ l m h = go (same l m) refl
@@ -18,56 +20,55 @@ differ l m h = go (same l m) refl
     go true e = absurd (h (same-eq l m e))
     go false e = e
 
-same-number : (l m : List ℕ) → length l ≡ length m → Below 256 l → Below 256 m → same l m ≡ eqb (fromLow l) (fromLow m)
-same-number l m e t u =
-    equal-or (fromLow l) (fromLow m)
-    (λ h.
-    let q : l ≡ m = sym (digits-from 256 l (lit< tt) t) ∙ ap₂ (λ (x y : ℕ). low x y) e h ∙ digits-from 256 m (lit< tt) u in
-    ap (λ (x : List ℕ). same x m) q ∙ same-refl m ∙ sym (eq-eqb (fromLow l) (fromLow m) h))
-    (λ h. differ l m (λ q. h (ap fromLow q)) ∙ sym (ne-eqb (fromLow l) (fromLow m) h))
+pub entry-short : (ord : Order) (s : List ℕ) (b : ℕ) (e : Entry) → length s < b + 8 → same (take 8 (drop b s)) (entryIn ord e) ≡ false
+entry-short ord s b e h =
+    differ (take 8 (drop b s)) (entryIn ord e) (λ q. omega (arith, ap length q, length-take 8 (drop b s), length-drop b s, entry-eight ord e))
 
-below-low : (k n : ℕ) → Below 256 (low k n)
-unfolding digits
-below-low zero n = tt
-below-low (suc k) n = (omega arith, below-low k (n / 256))
+same-append : (a b c d : List ℕ) → length a ≡ length c → same (a ++ b) (c ++ d) ≡ same a c && same b d
+unfolding same
+same-append [] b [] d e = refl
+same-append [] b (y ∷ c) d e = absurd (omega arith)
+same-append (x ∷ a) b [] d e = absurd (omega arith)
+same-append (x ∷ a) b (y ∷ c) d e = ap (λ (t : Bool). eqb x y && t) (same-append a b c d (omega arith)) ∙ sym (and-assoc (eqb x y) (same a c) (same b d))
 
-entry-below : (e : Entry) → Below 256 (entryBytes e)
-unfolding entryBytes
-entry-below e = below-append 256 (low 4 (e .0)) (low 4 (e .1)) (below-low 4 (e .0)) (below-low 4 (e .1))
+module _ (ord : Order) (s : List ℕ) (all : (i : ℕ) → getD s i 0 < 256) where
+  -- k bytes at a place
+  part : (k at n : ℕ) → at + k ≤ length s → n < 256 ^ k → same (take k (drop at s)) (bytesIn ord k n) ≡ eqb (fixedAt ord k s at) n
+  unfolding fixedAt
+  part k at n h small =
+      let l : List ℕ = take k (drop at s) in
+      let long : length l ≡ k = length-take-le k (drop at s) (omega (arith, length-drop at s)) in
+      let below : Below 256 l = below-take 256 k (drop at s) (below-drop 256 at s (below-all 256 s all)) in
+      equal-or (numberIn ord l) n
+      (λ q.
+      let x : l ≡ bytesIn ord k n = sym (bytes-back ord k l long below) ∙ ap (bytesIn ord k) q in
+      ap (λ (m : List ℕ). same m (bytesIn ord k n)) x ∙ same-refl (bytesIn ord k n) ∙ sym (eq-eqb (numberIn ord l) n q))
+      (λ q. differ l (bytesIn ord k n) (λ x. q (ap (numberIn ord) x ∙ number-back ord k n small)) ∙ sym (ne-eqb (numberIn ord l) n q))
 
-entry-number : (o a : ℕ) → o < 4294967296 → a < 4294967296 → fromLow (entryBytes (o, a)) ≡ o + 4294967296 * a
-unfolding entryBytes
-entry-number o a h k =
-    from-append 256 (low 4 o) (low 4 a)
-    ∙ ap₂ (λ (n x : ℕ). fromLow (low 4 o) + 256 ^ n * x) (length-digits 256 4 o) (from-digits 256 4 a (lit< tt) ∙ mod-eq-of-lt k)
-    ∙ ap (λ (x : ℕ). x + 4294967296 * a) (from-digits 256 4 o (lit< tt) ∙ mod-eq-of-lt h)
+  two-parts : (j k at : ℕ) (a b : List ℕ) → at + j ≤ length s → length a ≡ j
+      → same (take (j + k) (drop at s)) (a ++ b) ≡ same (take j (drop at s)) a && same (take k (drop (at + j) s)) b
+  two-parts j k at a b h e =
+      ap (λ (l : List ℕ). same l (a ++ b)) (take-add j k (drop at s) ∙ ap (λ (l : List ℕ). take j (drop at s) ++ take k l) (drop-drop j at s))
+      ∙ same-append (take j (drop at s)) (take k (drop (at + j) s)) a b (length-take-le j (drop at s) (omega (arith, length-drop at s)) ∙ sym e)
 
--- an entry as two ints
-pub entry-same : (s : List ℕ) (b o a : ℕ) → ((i : ℕ) → getD s i 0 < 256) → b + 8 ≤ length s → o < 4294967296 → a < 4294967296
-    → same (take 8 (drop b s)) (entryBytes (o, a)) ≡ eqb (lowAt 4 s b + 4294967296 * lowAt 4 s (b + 4)) (o + 4294967296 * a)
-unfolding lowAt
-entry-same s b o a u h ho ha =
-    same-number (take 8 (drop b s)) (entryBytes (o, a)) (length-take-le 8 (drop b s) (omega (arith, length-drop b s)) ∙ sym (entry-eight (o, a)))
-    (below-take 256 8 (drop b s) (below-drop 256 b s (below-all 256 s u))) (entry-below (o, a))
-    ∙ ap₂ eqb (low-add 4 4 s b (omega arith)) (entry-number o a ho ha)
+  -- an entry as two ints
+  pub entry-same : (b o a : ℕ) → b + 8 ≤ length s → o < 4294967296 → a < 4294967296
+      → same (take 8 (drop b s)) (entryIn ord (o, a)) ≡ eqb (fixedAt ord 4 s b) o && eqb (fixedAt ord 4 s (b + 4)) a
+  unfolding entryIn
+  entry-same b o a h ho ha =
+      two-parts 4 4 b (bytesIn ord 4 o) (bytesIn ord 4 a) (omega arith) (length-in ord 4 o)
+      ∙ ap₂ _&&_ (part 4 b o (omega arith) ho) (part 4 (b + 4) a (omega arith) ha)
 
-pub entry-short : (s : List ℕ) (b : ℕ) (e : Entry) → length s < b + 8 → same (take 8 (drop b s)) (entryBytes e) ≡ false
-entry-short s b e h =
-    differ (take 8 (drop b s)) (entryBytes e)
-    (λ q. omega (arith, ap length q, length-take 8 (drop b s), length-drop b s, entry-eight e))
-
-end-below : Below 256 endBlock
-unfolding endBlock
-end-below = (lit< tt, (lit< tt, (lit< tt, (lit< tt, (lit< tt, (lit< tt, tt))))))
-
-end-number : (length endBlock ≡ 6) × (fromLow endBlock ≡ 281470681776127)
-unfolding endBlock fromDigits
-end-number = (refl, refl)
-
-pub end-same : (s : List ℕ) (at : ℕ) → ((i : ℕ) → getD s i 0 < 256) → at + 6 ≤ length s
-    → same (take 6 (drop at s)) endBlock ≡ eqb (lowAt 4 s at + 4294967296 * lowAt 2 s (at + 4)) 281470681776127
-unfolding lowAt
-end-same s at u h =
-    same-number (take 6 (drop at s)) endBlock (length-take-le 6 (drop at s) (omega (arith, length-drop at s)) ∙ sym (end-number .0))
-    (below-take 256 6 (drop at s) (below-drop 256 at s (below-all 256 s u))) end-below
-    ∙ ap₂ eqb (low-add 4 2 s at (omega arith)) (end-number .1)
+  -- the end block as three shorts
+  pub end-same : (at : ℕ) → at + 6 ≤ length s
+      → same (take 6 (drop at s)) (endIn ord)
+      ≡ (eqb (fixedAt ord 2 s at) endNumber && eqb (fixedAt ord 2 s (at + 2)) 0) && eqb (fixedAt ord 2 s (at + 4)) 65535
+  unfolding endIn
+  end-same at h =
+      let four : length (bytesIn ord 2 endNumber ++ bytesIn ord 2 0) ≡ 4 =
+      length-append (bytesIn ord 2 endNumber) (bytesIn ord 2 0) ∙ ap₂ _+_ (length-in ord 2 endNumber) (length-in ord 2 0) in
+      two-parts 4 2 at (bytesIn ord 2 endNumber ++ bytesIn ord 2 0) (bytesIn ord 2 65535) (omega arith) four
+      ∙ ap₂ _&&_
+      (two-parts 2 2 at (bytesIn ord 2 endNumber) (bytesIn ord 2 0) (omega arith) (length-in ord 2 endNumber)
+      ∙ ap₂ _&&_ (part 2 at endNumber (omega arith) (lit< tt)) (part 2 (at + 2) 0 (omega arith) (lit< tt)))
+      (part 2 (at + 4) 65535 (omega arith) (lit< tt))

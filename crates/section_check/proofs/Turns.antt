@@ -1,17 +1,19 @@
 -- The turns of the judge's loops. Over the blocks the loop keeps a fuel that will do, and that the judge from the start is the judge from here;
 -- over equal entries, that those passed were right. Assumes nothing.
-use Rattle.format.specs.Kit.{_≡_, refl, sym, ap, ap₂, _∙_, Bool, true, false, cond, List, _++_, ℕ, zero, suc, _+_, _-_, _*_, _<_, _≤_, add-zero}
-use Rattle.format.specs.Kit.{arith, add-one, eqb, leb, length, take, drop, replicate, getD, eq-eqb, ne-eqb, le-leb, lt-leb, lt-ltb, le-ltb, leb-true}
+use Rattle.format.specs.Kit.{_≡_, refl, sym, ap, ap₂, _∙_, Bool, true, false, cond, _&&_, List, [], _∷_, _++_, ℕ, zero, suc, _+_, _-_, _*_, _<_, _≤_}
+use Rattle.format.specs.Kit.{add-zero, arith, add-one, eqb, leb, length, take, drop, replicate, getD, eq-eqb, ne-eqb, le-leb, lt-leb, lt-ltb, le-ltb}
+use Rattle.format.specs.Kit.{leb-true}
 use Rattle.format.specs.Limits.{maxBlock, endNumber}
 use Rattle.format.specs.Refusals.{Outcome, done, refused, need}
-use Rattle.format.specs.Bytes.{same, lowAt}
-use Rattle.format.specs.Ids.{Entry, dataBytes, blockBytes, entryBytes}
-use Rattle.format.proofs.Cases.{equal-or}
+use Rattle.format.specs.Bytes.{same}
+use Rattle.format.specs.Ids.{Entry, dataBytes, blockBytes}
+use Rattle.format.specs.Orders.{Order, fixedAt, endIn, entryIn}
+use Rattle.format.specs.Judge.{cutOff, blockOrder, placeOrder, onesUnlike, rankWrong, endWrong, placesOk, onesOk, ranksOk, firstFailed, testsAt, unlessFault}
+use Rattle.format.specs.Judge.{Ended, judgeFrom, judgeEntries}
 use Rattle.format.proofs.Sizes.{block-total}
 use Rattle.format.proofs.Tests.{both-true}
 use Rattle.section_check.proofs.Bytes.{entry-same, end-same}
-use Rattle.judge.specs.Judge.{cutOff, placesOk, onesOk, ranksOk, Ended, judgeEnd, judgeBlock, judgeFrom, judgeEntries}
-use Rattle.section_check.specs.Reasons.{blockReason, endReason, Repeats}
+use Rattle.section_check.specs.Reasons.{headThen, wordsReason, blockReason, endReason, Turn, Repeats}
 
 -- ---- reasons
 
@@ -20,21 +22,26 @@ unfoldable pub byReason : ℕ → ℕ → Outcome Ended → Outcome Ended
 byReason zero at more = more
 byReason (suc r) at more = refused (suc r) at
 
--- a test before, and a chain of them
-tested : (t : Bool) (r n at : ℕ) (more : Outcome Ended) → need t (suc n) at (byReason r at more) ≡ byReason (cond t r (suc n)) at more
-unfolding byReason need
-tested true r n at more = refl
-tested false r n at more = refl
+-- the table of a block that is not the end block, whose head is there
+block-table : (b q l n r : Bool) (at : ℕ) (more : Outcome Ended)
+    → unlessFault (firstFailed ((b, cutOff) ∷ (q, blockOrder) ∷ (l, placeOrder) ∷ (n, onesUnlike) ∷ (r, rankWrong) ∷ (true, endWrong) ∷ [])) at more
+    ≡ byReason (cond b (cond q (cond l (cond n (cond r 0 rankWrong) onesUnlike) placeOrder) blockOrder) cutOff) at more
+unfolding firstFailed unlessFault byReason
+block-table false q l n r at more = refl
+block-table true false l n r at more = refl
+block-table true true false n r at more = refl
+block-table true true true false r at more = refl
+block-table true true true true false at more = refl
+block-table true true true true true at more = refl
 
-block-is : (p : ℕ) (s : List ℕ) (at next k c : ℕ) (more : Outcome Ended)
-    → judgeBlock p s at next k c more ≡ byReason (blockReason p s at next k c) at more
-unfolding judgeBlock blockReason byReason
-block-is p s at next k c more =
-    rw (tested _ 0 4 at more, tested _ _ 3 at more, tested _ _ 2 at more, tested _ _ 1 at more, tested _ _ 0 at more)
-
-end-is : (s : List ℕ) (at o next : ℕ) → judgeEnd s at o next ≡ byReason (endReason s at) at (done (record { start = at; count = o; next = next }))
-unfolding judgeEnd endReason byReason
-end-is s at o next = rw (tested _ 0 5 at _, tested _ _ 0 at _)
+-- and that of the end block
+end-table : (b x : Bool) (at : ℕ) (more : Outcome Ended)
+    → unlessFault (firstFailed ((b, cutOff) ∷ (true, blockOrder) ∷ (true, placeOrder) ∷ (true, onesUnlike) ∷ (true, rankWrong) ∷ (x, endWrong) ∷ [])) at more
+    ≡ byReason (cond b (cond x 0 endWrong) cutOff) at more
+unfolding firstFailed unlessFault byReason
+end-table false x at more = refl
+end-table true false at more = refl
+end-table true true at more = refl
 
 no-reason : (r at : ℕ) (more : Outcome Ended) → r ≡ 0 → byReason r at more ≡ more
 unfolding byReason
@@ -55,156 +62,167 @@ passes : (t : Bool) (r n : ℕ) → cond t r (suc n) ≡ 0 → (t ≡ true) × (
 passes true r n e = (refl, e)
 passes false r n e = absurd (omega arith)
 
-pub sound : (p : ℕ) (s : List ℕ) (at next k c : ℕ) → blockReason p s at next k c ≡ 0 → Sound p s at next k c
+module _ (p : ℕ) (s : List ℕ) (at next k c : ℕ) where
+  pub head-sound : (more : ℕ) → headThen p s at next k c more ≡ 0 → Sound p s at next k c
+  head-sound more e =
+      let a = passes _ _ 0 e in
+      let b = both-true (leb next k) (leb k maxBlock) (passes _ _ 1 (a .1) .0) in
+      record { fits = leb-true _ _ (a .0); after = leb-true _ _ (b .0); most = leb-true _ _ (b .1) }
+
+pub sound : (ord : Order) (p : ℕ) (s : List ℕ) (at next k c : ℕ) → blockReason ord p s at next k c ≡ 0 → Sound p s at next k c
 unfolding blockReason
-sound p s at next k c e =
-    let a = passes _ _ 0 e in
-    let b = both-true (leb next k) (leb k maxBlock) (passes _ _ 1 (a .1) .0) in
-    record { fits = leb-true _ _ (a .0); after = leb-true _ _ (b .0); most = leb-true _ _ (b .1) }
+sound ord p s at next k c e = head-sound p s at next k c _ e
 
 -- ---- the blocks
 
--- the whole judge is the judge from a place on, with a count of blocks that will do
-pub record Turn (whole : Outcome Ended) (p : ℕ) (s : List ℕ) (at o next : ℕ) : Type 0 where
-  pub fuel : ℕ
-  pub enough : length s < fuel + at
-  pub same : whole ≡ judgeFrom fuel p s at o next
+pub begin : (ord : Order) (p : ℕ) (s : List ℕ) → Turn (judgeFrom (suc (length s)) ord p s 0 0 0) ord p s 0 0 0
+begin ord p s = record { fuel = suc (length s); enough = omega arith; same = refl }
 
-pub begin : (p : ℕ) (s : List ℕ) → Turn (judgeFrom (suc (length s)) p s 0 0 0) p s 0 0 0
-begin p s = record { fuel = suc (length s); enough = omega arith; same = refl }
-
-module _ (whole : Outcome Ended) (p : ℕ) (s : List ℕ) (at o next : ℕ) (t : Turn whole p s at o next) (l : at ≤ length s) where
+module _ (whole : Outcome Ended) (ord : Order) (p : ℕ) (s : List ℕ) (at o next : ℕ) (t : Turn whole ord p s at o next) (l : at ≤ length s) where
   fuel-left : t .fuel ≡ suc (t .fuel - 1)
   fuel-left = omega (arith, t .enough)
 
-  here : whole ≡ judgeFrom (suc (t .fuel - 1)) p s at o next
-  here = t .same ∙ ap (λ (f : ℕ). judgeFrom f p s at o next) fuel-left
+  here : whole ≡ judgeFrom (suc (t .fuel - 1)) ord p s at o next
+  here = t .same ∙ ap (λ (f : ℕ). judgeFrom f ord p s at o next) fuel-left
 
   pub turn-short : length s < at + 4 → refused cutOff at ≡ whole
-  unfolding judgeFrom need
+  unfolding judgeFrom testsAt firstFailed unlessFault
   turn-short h = sym (here ∙ rw (lt-leb (at + 4) (length s) h))
 
   module _ (h : at + 4 ≤ length s) where
     -- at the end block
-    module _ (r : ℕ) (e : lowAt 2 s at ≡ endNumber) (q : r ≡ endReason s at) where
-      at-end : whole ≡ byReason (endReason s at) at (done (record { start = at; count = o; next = next }))
-      unfolding judgeFrom need
-      at-end = here ∙ rw (le-leb (at + 4) (length s) h, e) (end-is s at o next)
+    module _ (r : ℕ) (e : fixedAt ord 2 s at ≡ endNumber) (q : r ≡ endReason ord s at) where
+      at-end : whole ≡ byReason (endReason ord s at) at (done (record { start = at; count = o; next = next }))
+      unfolding judgeFrom testsAt endReason
+      at-end =
+          here ∙ rw (le-leb (at + 4) (length s) h, e)
+          (end-table (leb (at + 6) (length s)) (same (take 6 (drop at s)) (endIn ord)) at (done (record { start = at; count = o; next = next })))
 
       pub turn-end : r ≡ 0 → done (record { start = at; count = o; next = next }) ≡ whole
-      turn-end z = sym (at-end ∙ no-reason (endReason s at) at _ (sym q ∙ z))
+      turn-end z = sym (at-end ∙ no-reason (endReason ord s at) at _ (sym q ∙ z))
 
       pub turn-bad-end : (r ≡ 0 → ⊥) → refused r at ≡ whole
-      turn-bad-end z = sym (at-end ∙ a-reason (endReason s at) r at _ q z)
+      turn-bad-end z = sym (at-end ∙ a-reason (endReason ord s at) r at _ q z)
 
     -- at a block of number k and c ids
-    module _ (c : ℕ) (k : ℕ) (ek : k ≡ lowAt 2 s at) (hk : k ≡ endNumber → ⊥) (ec : c ≡ lowAt 2 s (at + 2) + 1) where
-      at-block : whole ≡ byReason (blockReason p s at next k c) at (judgeFrom (t .fuel - 1) p s (at + blockBytes p c) (o + c) (k + 1))
-      unfolding judgeFrom need
+    module _ (c : ℕ) (k : ℕ) (ek : k ≡ fixedAt ord 2 s at) (hk : k ≡ endNumber → ⊥) (ec : c ≡ fixedAt ord 2 s (at + 2) + 1) where
+      at-block : whole ≡ byReason (blockReason ord p s at next k c) at (judgeFrom (t .fuel - 1) ord p s (at + blockBytes p c) (o + c) (k + 1))
+      unfolding judgeFrom testsAt blockReason
       at-block =
-          let y : suc (lowAt 2 s (at + 2)) ≡ c = omega arith in
-          here ∙ rw (le-leb (at + 4) (length s) h, ← ek, ne-eqb k endNumber hk, y, add-one k) (block-is p s at next k c _)
+          let y : suc (fixedAt ord 2 s (at + 2)) ≡ c = omega arith in
+          here ∙ rw (le-leb (at + 4) (length s) h, ← ek, ne-eqb k endNumber hk, y, add-one k)
+          (block-table (leb (at + blockBytes p c) (length s)) (leb next k && leb k maxBlock) (placesOk ord s (at + 4) c) (onesOk p s (at + 4) c)
+          (ranksOk p s (at + 4) c) at (judgeFrom (t .fuel - 1) ord p s (at + blockBytes p c) (o + c) (suc k)))
 
-      pub turn-bad : (r : ℕ) → r ≡ blockReason p s at next k c → (r ≡ 0 → ⊥) → refused r at ≡ whole
-      turn-bad r q z = sym (at-block ∙ a-reason (blockReason p s at next k c) r at _ q z)
+      pub turn-bad : (r : ℕ) → r ≡ blockReason ord p s at next k c → (r ≡ 0 → ⊥) → refused r at ≡ whole
+      turn-bad r q z = sym (at-block ∙ a-reason (blockReason ord p s at next k c) r at _ q z)
 
-      pub turn-on : (to : ℕ) → to ≡ at + blockBytes p c → blockReason p s at next k c ≡ 0 → Turn whole p s to (o + c) (k + 1)
+      pub turn-on : (to : ℕ) → to ≡ at + blockBytes p c → blockReason ord p s at next k c ≡ 0 → Turn whole ord p s to (o + c) (k + 1)
       turn-on to e q =
           rw e
           (record {
             fuel = t .fuel - 1;
             enough = omega (arith, t .enough, fuel-left, block-total p c);
-            same = at-block ∙ no-reason (blockReason p s at next k c) at _ q;
+            same = at-block ∙ no-reason (blockReason ord p s at next k c) at _ q;
           })
 
 -- ---- what the tests of a block give
 
+-- a reason is the same, whatever would be left
+told : (b q : Bool) (r more : ℕ) → r ≡ cond b (cond q 0 blockOrder) cutOff → (r ≡ 0 → ⊥) → r ≡ cond b (cond q more blockOrder) cutOff
+told false q r more e h = e
+told true false r more e h = e
+told true true r more e h = absurd (h e)
+
 module _ (p : ℕ) (s : List ℕ) (at next k c : ℕ) where
-  pub reason-cut : length s < at + 4 + dataBytes p c → 1 ≡ blockReason p s at next k c
-  unfolding blockReason
-  reason-cut h = rw (lt-leb (at + blockBytes p c) (length s) (omega (arith, block-total p c)))
+  pub head-cut : length s < at + 4 + dataBytes p c → 1 ≡ headThen p s at next k c 0
+  head-cut h = rw (lt-leb (at + blockBytes p c) (length s) (omega (arith, block-total p c)))
 
   module _ (h : at + 4 + dataBytes p c ≤ length s) where
     fit : leb (at + blockBytes p c) (length s) ≡ true
     fit = le-leb (at + blockBytes p c) (length s) (omega (arith, block-total p c))
 
-    pub reason-low : k < next → 2 ≡ blockReason p s at next k c
+    pub head-low : k < next → 2 ≡ headThen p s at next k c 0
+    head-low l = rw (fit, lt-leb next k l)
+
+    pub head-high : next ≤ k → maxBlock < k → 2 ≡ headThen p s at next k c 0
+    head-high l m = rw (fit, le-leb next k l, lt-leb k maxBlock m)
+
+    pub head-right : next ≤ k → k ≤ maxBlock → (more : ℕ) → headThen p s at next k c more ≡ more
+    head-right l m more = rw (fit, le-leb next k l, le-leb k maxBlock m)
+
+  module _ (ord : Order) where
+    pub reason-head : (r : ℕ) → r ≡ headThen p s at next k c 0 → (r ≡ 0 → ⊥) → r ≡ blockReason ord p s at next k c
     unfolding blockReason
-    reason-low l = rw (fit, lt-leb next k l)
+    reason-head r e h = told (leb (at + blockBytes p c) (length s)) (leb next k && leb k maxBlock) r _ e h
 
-    pub reason-high : next ≤ k → maxBlock < k → 2 ≡ blockReason p s at next k c
-    unfolding blockReason
-    reason-high l m = rw (fit, le-leb next k l, lt-leb k maxBlock m)
+    -- the head has none
+    module _ (o : headThen p s at next k c 0 ≡ 0) where
+      left : (more : ℕ) → headThen p s at next k c more ≡ more
+      left more = let w = head-sound p s at next k c 0 o in head-right (omega (arith, w .fits, block-total p c)) (w .after) (w .most) more
 
-    module _ (l : next ≤ k) (m : k ≤ maxBlock) where
-      pub reason-places : placesOk s (at + 4) c ≡ false → 3 ≡ blockReason p s at next k c
+      pub reason-places : placesOk ord s (at + 4) c ≡ false → 3 ≡ blockReason ord p s at next k c
       unfolding blockReason
-      reason-places x = rw (fit, le-leb next k l, le-leb k maxBlock m, x)
+      reason-places x = sym (left _ ∙ rw x)
 
-      pub reason-words : (r : ℕ) → placesOk s (at + 4) c ≡ true → r ≡ cond (onesOk p s (at + 4) c) (cond (ranksOk p s (at + 4) c) 0 5) 4
-          → r ≡ blockReason p s at next k c
+      pub reason-words : (r : ℕ) → placesOk ord s (at + 4) c ≡ true → r ≡ wordsReason p s (at + 4) c → r ≡ blockReason ord p s at next k c
       unfolding blockReason
-      reason-words r x e = rw (fit, le-leb next k l, le-leb k maxBlock m, x) e
+      reason-words r x e = sym (left _ ∙ rw x (sym e))
 
-pub end-cut : (s : List ℕ) (at : ℕ) → length s < at + 6 → 1 ≡ endReason s at
+pub end-cut : (ord : Order) (s : List ℕ) (at : ℕ) → length s < at + 6 → 1 ≡ endReason ord s at
 unfolding endReason
-end-cut s at h = rw (lt-leb (at + 6) (length s) h)
+end-cut ord s at h = rw (lt-leb (at + 6) (length s) h)
 
-module _ (s : List ℕ) (at : ℕ) (u : (i : ℕ) → getD s i 0 < 256) (h : at + 6 ≤ length s) where
-  pub end-bad : lowAt 4 s at < 4294967296 → (lowAt 4 s at ≡ endNumber → lowAt 2 s (at + 4) ≡ 65535 → ⊥) → 6 ≡ endReason s at
+module _ (ord : Order) (s : List ℕ) (at : ℕ) (u : (i : ℕ) → getD s i 0 < 256) (h : at + 6 ≤ length s) (e : fixedAt ord 2 s at ≡ endNumber) where
+  pub end-count : (fixedAt ord 2 s (at + 2) ≡ 0 → ⊥) → 6 ≡ endReason ord s at
   unfolding endReason
-  end-bad l k =
-      let x : ℕ = lowAt 4 s at + 4294967296 * lowAt 2 s (at + 4) in
-      rw (le-leb (at + 6) (length s) h, end-same s at u h, ne-eqb x 281470681776127 (λ e. k (omega arith) (omega arith)))
+  end-count k = rw (le-leb (at + 6) (length s) h, end-same ord s u at h, e, ne-eqb (fixedAt ord 2 s (at + 2)) 0 k)
 
-  pub end-good : lowAt 4 s at ≡ endNumber → lowAt 2 s (at + 4) ≡ 65535 → 0 ≡ endReason s at
+  pub end-place : fixedAt ord 2 s (at + 2) ≡ 0 → (fixedAt ord 2 s (at + 4) ≡ 65535 → ⊥) → 6 ≡ endReason ord s at
   unfolding endReason
-  end-good e f = rw (le-leb (at + 6) (length s) h, end-same s at u h, e, f)
+  end-place f k = rw (le-leb (at + 6) (length s) h, end-same ord s u at h, e, f, ne-eqb (fixedAt ord 2 s (at + 4)) 65535 k)
+
+  pub end-good : fixedAt ord 2 s (at + 2) ≡ 0 → fixedAt ord 2 s (at + 4) ≡ 65535 → 0 ≡ endReason ord s at
+  unfolding endReason
+  end-good f g = rw (le-leb (at + 6) (length s) h, end-same ord s u at h, e, f, g)
 
 -- ---- one entry
 
-module _ (s : List ℕ) (b o a : ℕ) (u : (i : ℕ) → getD s i 0 < 256) (h : b + 8 ≤ length s) (ho : o < 4294967296) (ha : a < 4294967296)
-    (l : lowAt 4 s b < 4294967296) where
-  pub entry-bad : (lowAt 4 s b ≡ o → ⊥) → false ≡ same (take 8 (drop b s)) (entryBytes (o, a))
-  entry-bad k =
-      let x : ℕ = lowAt 4 s b + 4294967296 * lowAt 4 s (b + 4) in
-      rw (entry-same s b o a u h ho ha, ne-eqb x (o + 4294967296 * a) (λ e. k (omega arith)))
+module _ (ord : Order) (s : List ℕ) (b o a : ℕ) (u : (i : ℕ) → getD s i 0 < 256) (h : b + 8 ≤ length s) (ho : o < 4294967296) (ha : a < 4294967296) where
+  pub entry-bad : (fixedAt ord 4 s b ≡ o → ⊥) → false ≡ same (take 8 (drop b s)) (entryIn ord (o, a))
+  entry-bad k = rw (entry-same ord s u b o a h ho ha, ne-eqb (fixedAt ord 4 s b) o k)
 
-  pub entry-good : (x : ℕ) → lowAt 4 s b ≡ o → x ≡ lowAt 4 s (b + 4) → eqb x a ≡ same (take 8 (drop b s)) (entryBytes (o, a))
-  entry-good x e f =
-      rw (entry-same s b o a u h ho ha, e, ← f)
-      (equal-or x a
-      (λ k. eq-eqb x a k ∙ sym (eq-eqb (o + 4294967296 * x) (o + 4294967296 * a) (omega arith)))
-      (λ k. ne-eqb x a k ∙ sym (ne-eqb (o + 4294967296 * x) (o + 4294967296 * a) (λ q. k (omega arith)))))
+  pub entry-good : (x : ℕ) → fixedAt ord 4 s b ≡ o → x ≡ fixedAt ord 4 s (b + 4) → eqb x a ≡ same (take 8 (drop b s)) (entryIn ord (o, a))
+  entry-good x e f = rw (entry-same ord s u b o a h ho ha, eq-eqb (fixedAt ord 4 s b) o e, ← f)
 
 -- ---- entries that repeat, in a loop
 
-abbrev pub Kept : List ℕ → ℕ → ℕ → ℕ → ℕ → ℕ → Type 0
-Kept s from n o at i =
-    (more : List Entry) → judgeEntries (replicate n (o, at) ++ more) s from ≡ judgeEntries (replicate (n - i) (o, at) ++ more) s (from + 8 * i)
+abbrev pub Kept : Order → List ℕ → ℕ → ℕ → ℕ → ℕ → ℕ → Type 0
+Kept ord s from n o at i =
+    (more : List Entry) → judgeEntries ord (replicate n (o, at) ++ more) s from ≡ judgeEntries ord (replicate (n - i) (o, at) ++ more) s (from + 8 * i)
 
-module _ (s : List ℕ) (from n o at : ℕ) where
-  pub kept-begin : Kept s from n o at 0
+module _ (ord : Order) (s : List ℕ) (from n o at : ℕ) where
+  pub kept-begin : Kept ord s from n o at 0
   kept-begin more =
       let e : n ≡ n - 0 = omega arith in
-      ap₂ (λ (x y : ℕ). judgeEntries (replicate x (o, at) ++ more) s y) e (sym (add-zero from))
+      ap₂ (λ (x y : ℕ). judgeEntries ord (replicate x (o, at) ++ more) s y) e (sym (add-zero from))
 
-  module _ (i : ℕ) (t : Kept s from n o at i) where
-    pub kept-on : i < n → same (take 8 (drop (from + 8 * i) s)) (entryBytes (o, at)) ≡ true → Kept s from n o at (i + 1)
+  module _ (i : ℕ) (t : Kept ord s from n o at i) where
+    pub kept-on : i < n → same (take 8 (drop (from + 8 * i) s)) (entryIn ord (o, at)) ≡ true → Kept ord s from n o at (i + 1)
     unfolding judgeEntries need
     kept-on h e more =
         let f : n - i ≡ suc (n - (i + 1)) = omega arith in
         let g : from + 8 * i + 8 ≡ from + 8 * (i + 1) = omega arith in
-        t more ∙ ap (λ (x : ℕ). judgeEntries (replicate x (o, at) ++ more) s (from + 8 * i)) f ∙ rw (e, g) refl
+        t more ∙ ap (λ (x : ℕ). judgeEntries ord (replicate x (o, at) ++ more) s (from + 8 * i)) f ∙ rw (e, g) refl
 
-    pub kept-stop : i < n → same (take 8 (drop (from + 8 * i) s)) (entryBytes (o, at)) ≡ false → Repeats s from n o at i
+    pub kept-stop : i < n → same (take 8 (drop (from + 8 * i) s)) (entryIn ord (o, at)) ≡ false → Repeats ord s from n o at i
     unfolding judgeEntries need Repeats
     kept-stop h e more =
         let f : n - i ≡ suc (n - (i + 1)) = omega arith in
-        t more ∙ ap (λ (x : ℕ). judgeEntries (replicate x (o, at) ++ more) s (from + 8 * i)) f ∙ rw (e, lt-ltb i n h) refl
+        t more ∙ ap (λ (x : ℕ). judgeEntries ord (replicate x (o, at) ++ more) s (from + 8 * i)) f ∙ rw (e, lt-ltb i n h) refl
 
-    pub kept-end : i ≡ n → Repeats s from n o at n
+    pub kept-end : i ≡ n → Repeats ord s from n o at n
     unfolding Repeats
     kept-end e more =
         let f : n - i ≡ 0 = omega arith in
-        t more ∙ ap₂ (λ (x y : ℕ). judgeEntries (replicate x (o, at) ++ more) s (from + 8 * y)) f e ∙ rw (le-ltb n n (omega arith)) refl
+        t more ∙ ap₂ (λ (x y : ℕ). judgeEntries ord (replicate x (o, at) ++ more) s (from + 8 * y)) f e ∙ rw (le-ltb n n (omega arith)) refl

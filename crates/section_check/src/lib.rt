@@ -1,21 +1,24 @@
-// The judge of an id section (document 01, "Id section"): its blocks, its end block, its jump entries.
+// The judge of an id section in either byte order (document 02, [9]): its blocks, its end block, its jump entries. The check of a column
+// asks it with the low byte first.
 ghost use mathlib.Core.Path.{_≡_};
 ghost use Prim.Native.Nat.{suc, _+_, _*_, _≤_, _<_};
 ghost use lib.ListN.{length, take, drop};
 ghost use Rattle.format.specs.Refusals.{done};
 ghost use Rattle.format.specs.Bytes.{same};
-ghost use Rattle.format.specs.Ids.{entryBytes, jumpsFrom, notTwo};
-ghost use Rattle.format.specs.IdsRead.{readRuns};
-ghost use Rattle.format.specs.Limits.{Power, blockPlaces};
-ghost use Rattle.judge.specs.Judge.{judgeFrom, judgeEntries, judgeRest, judge};
-ghost use Rattle.section_check.specs.Reasons.{blockReason, endReason, Repeats, endedAt, blocksOf, entriesOf, verdictOf};
-use block::places_ok;
-use block::words_reason;
+ghost use Rattle.format.specs.Ids.{notTwo};
+ghost use Rattle.format.specs.Limits.{Power, blockPlaces, endNumber};
+ghost use Rattle.format.specs.Orders.{fixedAt, entryIn};
+ghost use Rattle.format.specs.Judge.{judgeFrom, jumpsIn, judgeEntries, judgeRest, judge};
+ghost use Rattle.format.specs.Replies.{orderOf};
+ghost use Rattle.section_check.specs.Reasons.{endReason, Walked, Repeats, endedAt, walkOf, entriesOf, verdictOf};
+use block::sparse_reason;
+use block::wide_reason;
 use blocks::Block;
 use blocks::data_bytes;
-use numbers::int_at;
+use format::ByteOrder;
+use numbers::int_in;
 use numbers::long;
-use numbers::short_at;
+use numbers::short_in;
 use numbers::size;
 
 mod block;
@@ -25,7 +28,7 @@ pub use block::ascending;
 // The block of the greatest id.
 const MAX_BLOCK: u64 = 32765;
 
-// Why a section is refused, as crate judge numbers it.
+// The number of each reason.
 pub const CUT_OFF: u64 = 1;
 
 pub const BLOCK_ORDER: u64 = 2;
@@ -42,8 +45,9 @@ pub const JUMP_WRONG: u64 = 7;
 
 pub const LEFT_OVER: u64 = 8;
 
-// The end block's start, the ids before it and the number after the last block; or a reason and a place.
-enum BlocksEnd {
+// Where the walk over the blocks stands: a block's start, the ids before it and the least number that it may have; or a reason and a
+// place.
+enum Walk {
     At(usize, u64, u64),
     Fault(u64, usize),
 }
@@ -60,74 +64,97 @@ pub enum Verdict {
     Faulty(u64, usize),
 }
 
-fn block_reason(s: &[u8], at: usize, next: u64, k: u64, c: usize, p: usize) -> u64
-    requires { ⌜ (Power p) × (c ≤ blockPlaces) × (at + 4 ≤ length (now s)) ⌝ }
-    ensures { λ r. ⌜ r ≡ blockReason p (now (s .entry)) at next k c ⌝ }
-{
-    let t = at + 4;
-    if s.len() - t < data_bytes(p, c) {
-        return CUT_OFF;
-    }
-    if k < next {
-        return BLOCK_ORDER;
-    }
-    if k > MAX_BLOCK {
-        return BLOCK_ORDER;
-    }
-    if !places_ok(s, t, c, p) {
-        return PLACE_ORDER;
-    }
-    words_reason(s, t, c, p)
-}
-
-fn end_reason(s: &[u8], at: usize) -> u64
-    requires { ⌜ at + 4 ≤ length (now s) ⌝ }
-    ensures { λ r. ⌜ r ≡ endReason (now (s .entry)) at ⌝ }
+// A block numbered 32767 is the end block.
+fn end_reason(s: &[u8], order: ByteOrder, at: usize) -> u64
+    requires { ⌜ (at + 4 ≤ length (now s)) × (fixedAt (orderOf order) 2 (now s) at ≡ endNumber) ⌝ }
+    ensures { λ r. ⌜ r ≡ endReason (orderOf order) (now (s .entry)) at ⌝ }
 {
     if s.len() - at < 6 {
         return CUT_OFF;
     }
-    if int_at(s, at) != Block::END {
+    if short_in(order, s, at + 2) != 0 {
         return END_WRONG;
     }
-    if short_at(s, at + 4) != 65535 {
+    if short_in(order, s, at + 4) != 65535 {
         return END_WRONG;
     }
     0
 }
 
-// The blocks, one after the other.
-fn judge_blocks(s: &[u8], p: usize) -> BlocksEnd
+// Goes over sparse blocks, up to one of another kind or the end block.
+fn sparse_blocks(
+    s: &[u8],
+    order: ByteOrder,
+    p: usize,
+    start: usize,
+    before: u64,
+    least: u64,
+) -> Walk
+    requires { ⌜ (Power p) × (start ≤ length (now s)) × (before ≤ blockPlaces * least) × (least ≤ 32766) ⌝ }
+    ensures { λ r. ⌜ Walked (orderOf order) p (now (s .entry)) start before least r ⌝ }
+{
+    let mut at = start;
+    let mut count = before;
+    let mut next = least;
+    while s.len() - at >= 4 {
+        let k = short_in(order, s, at);
+        if k == Block::END {
+            return Walk::At(at, count, next);
+        }
+        let c = short_in(order, s, at + 2) + 1;
+        let n = size(c);
+        if n >= Block::DENSE_COUNT {
+            return Walk::At(at, count, next);
+        }
+        let why = sparse_reason(s, order, at, next, k, n, p);
+        if why != 0 {
+            return Walk::Fault(why, at);
+        }
+        at = at + 4 + data_bytes(p, n);
+        count += c;
+        next = k + 1;
+    }
+    Walk::Fault(CUT_OFF, at)
+}
+
+// The blocks, one after the other, up to the end block. Sparse ones have a loop of their own: in one loop with the dense ones they wait for
+// its registers.
+fn judge_blocks(s: &[u8], order: ByteOrder, p: usize) -> Walk
     requires { ⌜ Power p ⌝ }
-    ensures { λ r. ⌜ blocksOf r ≡ judgeFrom (suc (length (now (s .entry)))) p (now (s .entry)) 0 0 0 ⌝ }
+    ensures { λ r. ⌜ walkOf r ≡ judgeFrom (suc (length (now (s .entry)))) (orderOf order) p (now (s .entry)) 0 0 0 ⌝ }
 {
     let mut at: usize = 0;
     let mut count: u64 = 0;
     let mut next: u64 = 0;
     while s.len() - at >= 4 {
-        let k = short_at(s, at);
+        let w = sparse_blocks(s, order, p, at, count, next);
+        let Walk::At(b, before, least) = w else {
+            return w;
+        };
+        let k = short_in(order, s, b);
         if k == Block::END {
-            let e = end_reason(s, at);
-            if e != 0 {
-                return BlocksEnd::Fault(e, at);
+            let why = end_reason(s, order, b);
+            if why != 0 {
+                return Walk::Fault(why, b);
             }
-            return BlocksEnd::At(at, count, next);
+            return w;
         }
-        let c = short_at(s, at + 2) + 1;
-        let r = block_reason(s, at, next, k, size(c), p);
-        if r != 0 {
-            return BlocksEnd::Fault(r, at);
+        let c = short_in(order, s, b + 2) + 1;
+        let n = size(c);
+        let why = wide_reason(s, b, least, k, n, p);
+        if why != 0 {
+            return Walk::Fault(why, b);
         }
-        at = at + 4 + data_bytes(p, size(c));
-        count += c;
+        at = b + 4 + data_bytes(p, n);
+        count = before + c;
         next = k + 1;
     }
-    BlocksEnd::Fault(CUT_OFF, at)
+    Walk::Fault(CUT_OFF, at)
 }
 
-fn entry_is(s: &[u8], b: usize, o: u64, at: u64) -> bool
+fn entry_is(s: &[u8], order: ByteOrder, b: usize, o: u64, at: u64) -> bool
     requires { ⌜ (o < 4294967296) × (at < 4294967296) ⌝ }
-    ensures { λ r. ⌜ r ≡ same (take 8 (drop b (now (s .entry)))) (entryBytes (o, at)) ⌝ }
+    ensures { λ r. ⌜ r ≡ same (take 8 (drop b (now (s .entry)))) (entryIn (orderOf order) (o, at)) ⌝ }
 {
     if s.len() < 8 {
         return false;
@@ -135,20 +162,20 @@ fn entry_is(s: &[u8], b: usize, o: u64, at: u64) -> bool
     if b > s.len() - 8 {
         return false;
     }
-    if int_at(s, b) != o {
+    if int_in(order, s, b) != o {
         return false;
     }
-    int_at(s, b + 4) == at
+    int_in(order, s, b + 4) == at
 }
 
 // How many of n entries at a place are (o, at), before the first that is not.
-fn repeated(s: &[u8], from: usize, n: usize, o: u64, at: u64) -> usize
+fn repeated(s: &[u8], order: ByteOrder, from: usize, n: usize, o: u64, at: u64) -> usize
     requires { ⌜ (o < 4294967296) × (at < 4294967296) × (from < 4294967296) × (n ≤ 32768) ⌝ }
-    ensures { λ r. ⌜ (r ≤ n) × (Repeats (now (s .entry)) from n o at r) ⌝ }
+    ensures { λ r. ⌜ (r ≤ n) × (Repeats (orderOf order) (now (s .entry)) from n o at r) ⌝ }
 {
     let mut i = 0;
     while i < n {
-        let right = entry_is(s, from + 8 * i, o, at);
+        let right = entry_is(s, order, from + 8 * i, o, at);
         if !right {
             return i;
         }
@@ -158,22 +185,28 @@ fn repeated(s: &[u8], from: usize, n: usize, o: u64, at: u64) -> usize
 }
 
 // The entries of the blocks, which were judged already.
-fn judge_entries(s: &[u8], p: usize, start: usize, count: u64, next: u64) -> EntriesEnd
-    requires { ⌜ (Power p) × (judgeFrom (suc (length (now s))) p (now s) 0 0 0 ≡ done (endedAt start count next)) ⌝ }
+fn judge_entries(
+    s: &[u8],
+    order: ByteOrder,
+    p: usize,
+    start: usize,
+    count: u64,
+    next: u64,
+) -> EntriesEnd
+    requires { ⌜ (Power p) × (judgeFrom (suc (length (now s))) (orderOf order) p (now s) 0 0 0 ≡ done (endedAt start count next)) ⌝ }
     ensures { λ r.
-        ⌜ entriesOf r
-        ≡ judgeEntries (jumpsFrom p 0 0 0 (readRuns (length (now (s .entry))) p (now (s .entry)))) (now (s .entry)) (start + 6) ⌝ }
+        ⌜ entriesOf r ≡ judgeEntries (orderOf order) (jumpsIn (orderOf order) p (now (s .entry))) (now (s .entry)) (start + 6) ⌝ }
 {
     let base = start + 6;
     let mut at: usize = 0;
     let mut o: u64 = 0;
     let mut i: usize = 0;
     while at < start {
-        let k = size(short_at(s, at));
-        let c = short_at(s, at + 2) + 1;
+        let k = size(short_in(order, s, at));
+        let c = short_in(order, s, at + 2) + 1;
         let n = k + 1 - i;
         let from = base + 8 * i;
-        let r = repeated(s, from, n, o, long(at));
+        let r = repeated(s, order, from, n, o, long(at));
         if r < n {
             return EntriesEnd::Wrong(from + 8 * r);
         }
@@ -182,7 +215,7 @@ fn judge_entries(s: &[u8], p: usize, start: usize, count: u64, next: u64) -> Ent
         i = k + 1;
     }
     let last = base + 8 * i;
-    let right = entry_is(s, last, o, long(at));
+    let right = entry_is(s, order, last, o, long(at));
     if right {
         return EntriesEnd::At(last + 8);
     }
@@ -190,11 +223,19 @@ fn judge_entries(s: &[u8], p: usize, start: usize, count: u64, next: u64) -> Ent
 }
 
 // What follows the end block.
-fn judge_rest(s: &[u8], p: usize, j: usize, start: usize, count: u64, next: u64) -> Verdict
-    requires { ⌜ (Power p) × (judgeFrom (suc (length (now s))) p (now s) 0 0 0 ≡ done (endedAt start count next)) ⌝ }
+fn judge_rest(
+    s: &[u8],
+    order: ByteOrder,
+    p: usize,
+    j: usize,
+    start: usize,
+    count: u64,
+    next: u64,
+) -> Verdict
+    requires { ⌜ (Power p) × (judgeFrom (suc (length (now s))) (orderOf order) p (now s) 0 0 0 ≡ done (endedAt start count next)) ⌝ }
     ensures { λ r.
         ⌜ verdictOf r
-        ≡ judgeRest (notTwo (jumpsFrom p 0 0 0 (readRuns (length (now (s .entry))) p (now (s .entry))))) j (now (s .entry)) (endedAt start count next) ⌝ }
+        ≡ judgeRest (orderOf order) (notTwo (jumpsIn (orderOf order) p (now (s .entry)))) j (now (s .entry)) (endedAt start count next) ⌝ }
 {
     let base = start + 6;
     let n = size(next) + 1;
@@ -210,7 +251,7 @@ fn judge_rest(s: &[u8], p: usize, j: usize, start: usize, count: u64, next: u64)
     if j != n {
         return Verdict::Faulty(JUMP_WRONG, base);
     }
-    let end = judge_entries(s, p, start, count, next);
+    let end = judge_entries(s, order, p, start, count, next);
     match end {
         EntriesEnd::Wrong(b) => {
             return Verdict::Faulty(JUMP_WRONG, b);
@@ -225,13 +266,13 @@ fn judge_rest(s: &[u8], p: usize, j: usize, start: usize, count: u64, next: u64)
 }
 
 // An id section of j jump entries, at an allowed power.
-pub fn judge(s: &[u8], p: usize, j: usize) -> Verdict
+pub fn judge(s: &[u8], order: ByteOrder, p: usize, j: usize) -> Verdict
     requires { ⌜ Power p ⌝ }
-    ensures { λ r. ⌜ verdictOf r ≡ judge p j (now (s .entry)) ⌝ }
+    ensures { λ r. ⌜ verdictOf r ≡ judge (orderOf order) p j (now (s .entry)) ⌝ }
 {
-    let end = judge_blocks(s, p);
+    let end = judge_blocks(s, order, p);
     match end {
-        BlocksEnd::Fault(why, at) => Verdict::Faulty(why, at),
-        BlocksEnd::At(start, count, next) => judge_rest(s, p, j, start, count, next),
+        Walk::Fault(why, at) => Verdict::Faulty(why, at),
+        Walk::At(start, count, next) => judge_rest(s, order, p, j, start, count, next),
     }
 }

@@ -11,6 +11,7 @@ ghost use Rattle.format.specs.SetBytes.{setKind};
 ghost use Rattle.format.specs.SetCalls.{listLengthOk, setDataBytes, setDataOk, setPlaces, dataFrom, lengthFrom, kindFrom, blockFrom};
 ghost use Rattle.set_blocks.specs.Found.{numberedOf, headOf, Counted};
 use blocks::Block;
+use format::ByteOrder;
 use format::Refusal;
 use header_numbers::Number;
 
@@ -126,7 +127,7 @@ fn data_count(s: &[u8], at: usize, kind: u64, c: usize) -> u64
         }
         return ones;
     }
-    if !section_check::ascending(s, at, c) {
+    if !section_check::ascending(s, ByteOrder::LowFirst, at, c) {
         return 0;
     }
     if kind == SetBlock::MISSING {

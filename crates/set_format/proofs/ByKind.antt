@@ -10,7 +10,8 @@ use Rattle.format.specs.SetCalls.{listLengthOk, setDataBytes, setDataFits, setD
 use Rattle.format.proofs.Digits.{below-drop}
 use Rattle.format.proofs.Probes.{length-shorts}
 use Rattle.format.proofs.Tests.{both-true}
-use Rattle.judge.proofs.Parts.{asc-test, shorts-below}
+use Rattle.judge.proofs.Parts.{asc-test}
+use Rattle.judge.proofs.LowFirst.{shorts-below}
 use Rattle.set_format.proofs.Data.{ones-count}
 use Rattle.set_format.proofs.Missing.{missing-length}
 

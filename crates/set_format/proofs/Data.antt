@@ -8,6 +8,7 @@ use Rattle.format.specs.Ids.{bitmap}
 use Rattle.format.specs.IdsRead.{setBits, shorts}
 use Rattle.format.specs.LookUp.{onesFrom}
 use Rattle.format.specs.Pairs.{Asc, Below, ascFrom}
+use Rattle.format.specs.Orders.{lowByte}
 use Rattle.format.specs.SetBytes.{missing, setData, setKind, setList}
 use Rattle.format.specs.SetCalls.{listLengthOk, setDataBytes, setDataFits, setDataOk, setPlaces}
 use Rattle.format.proofs.Blocks.{low-back}
@@ -18,8 +19,9 @@ use Rattle.format.proofs.Probes.{length-shorts}
 use Rattle.format.proofs.Section.{length-bytesOf}
 use Rattle.format.proofs.SetBits.{bitmap-set, bits-back, set-asc, set-below}
 use Rattle.format.proofs.Tests.{both-true}
-use Rattle.judge.proofs.Parts.{asc-test, low-split, shorts-below, shorts-bytes, take-lt, test-asc}
-use Rattle.judge.proofs.Ranks.{ones-all}
+use Rattle.judge.proofs.Parts.{asc-test, test-asc}
+use Rattle.judge.proofs.Numbers.{number-split, first-lt}
+use Rattle.judge.proofs.LowFirst.{shorts-below, shorts-bytes, ones-low}
 use Rattle.set_format.proofs.Missing.{missing-asc, missing-back, missing-below, missing-length}
 
 -- ---- the choice of a kind
@@ -131,15 +133,15 @@ module _ (s : List ℕ) (u : Below 256 s) (at : ℕ) where
     enough = omega (arith, length-drop at s)
 
     set-number : bitmap set ≡ number-of
-    set-number = bitmap-set number-of (take-lt 8192 (drop at s) enough (below-drop 256 at s u))
+    set-number = bitmap-set number-of (first-lt lowByte 8192 (drop at s) enough (below-drop 256 at s u))
 
     pub longs : drop at s ≡ low 8192 (bitmap set) ++ drop 8192 (drop at s)
     longs =
-        low-split 8192 (drop at s) enough (below-drop 256 at s u)
+        number-split lowByte 8192 (drop at s) enough (below-drop 256 at s u)
         ∙ ap (λ (n : ℕ). low 8192 n ++ drop 8192 (drop at s)) (sym set-number)
 
     pub ones-count : onesFrom s at 1024 0 ≡ length set
-    ones-count = ones-all s at set (drop 8192 (drop at s)) (set-asc 65536 0 number-of) longs (set-below 65536 0 number-of 65536 (lit≤ tt))
+    ones-count = ones-low s at set (drop 8192 (drop at s)) (set-asc 65536 0 number-of) longs (set-below 65536 0 number-of 65536 (lit≤ tt))
 
     held-bitmap : (c : ℕ) → c ≡ 0 → setKind (onesFrom s at 1024 0) ≡ 2 → Held 2 c s at set
     unfolding setList setData setDataBytes
@@ -225,7 +227,7 @@ module _ (rs s : List ℕ) (at : ℕ) (rest : List ℕ) (some : zero < length rs
         long = refl;
         sound =
             rw (le-leb (at + 8192) (length s) (ends (low 8192 (bitmap rs)) 8192 e (length-digits 256 8192 (bitmap rs))))
-            (eq-eqb _ _ (ap setKind (ones-all s at rs rest asc e v) ∙ h));
+            (eq-eqb _ _ (ap setKind (ones-low s at rs rest asc e v) ∙ h));
         places =
             ap (λ (l : List ℕ). setBits 65536 0 (fromLow (take 8192 l))) e
             ∙ ap (λ (l : List ℕ). setBits 65536 0 (fromLow l)) (take-low 8192 (bitmap rs) rest)
@@ -247,7 +249,7 @@ pub other-kind : (rs s : List ℕ) (at : ℕ) (rest : List ℕ) → Asc 0 rs →
     → setDataOk 2 0 s at ≡ false
 unfolding setDataOk setDataFits setDataBytes
 other-kind rs s at rest asc v e n =
-    let k : eqb (setKind (onesFrom s at 1024 0)) 2 ≡ false = ne-eqb _ 2 (λ z. n (ap setKind (sym (ones-all s at rs rest asc e v)) ∙ z)) in
+    let k : eqb (setKind (onesFrom s at 1024 0)) 2 ≡ false = ne-eqb _ 2 (λ z. n (ap setKind (sym (ones-low s at rs rest asc e v)) ∙ z)) in
     below-or (length s) (at + 8192)
     (λ l. rw (lt-leb (at + 8192) (length s) l))
     (λ l. rw (le-leb (at + 8192) (length s) l, k))

@@ -14,7 +14,8 @@ use Rattle.format.proofs.Find.{occurs-listed}
 use Rattle.format.proofs.Ones.{bit-is}
 use Rattle.format.proofs.SetBits.{set-asc}
 use Rattle.format.proofs.Tests.{both-true}
-use Rattle.judge.proofs.Parts.{asc-test, shorts-below}
+use Rattle.judge.proofs.Parts.{asc-test}
+use Rattle.judge.proofs.LowFirst.{shorts-below}
 use Rattle.set_format.proofs.ByKind.{bytes-bitmap, bytes-list, fitting-list, places-bitmap, places-listed, places-missing}
 use Rattle.set_format.proofs.Data.{fits, longs}
 use Rattle.set_format.proofs.Missing.{missing-count, missing-listed}

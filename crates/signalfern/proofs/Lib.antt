@@ -6,3 +6,4 @@ pub mod Sequences
 pub mod Pages
 pub mod Layered
 pub mod Sets
+pub mod Sections

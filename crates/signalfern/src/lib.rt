@@ -14,12 +14,15 @@ ghost use Rattle.format.specs.Next.{next, nextIn, lastAfter};
 ghost use Rattle.format.specs.Layered.{lookUpLayered, lookUpLayeredIn, layeredPart, IsPart};
 ghost use Rattle.format.specs.SetBytes.{setWrite};
 ghost use Rattle.format.specs.SetCalls.{setCheck, setFind};
-ghost use Rattle.format.specs.Replies.{replyOf, answerOf, candidateOf, memberOf, Probed};
+ghost use Rattle.format.specs.Judge.{judgeSection};
+ghost use Rattle.format.specs.Replies.{replyOf, answerOf, candidateOf, memberOf, Probed, orderOf, judgementOf};
 ghost use Rattle.column.specs.Opened.{columnOf};
 ghost use Rattle.layered.specs.Answers.{layeredOf, partOf};
 use column::Column;
 use format::Answer;
+use format::ByteOrder;
 use format::Cursor;
+use format::Judgement;
 use format::Member;
 use format::Next;
 use format::Reply;
@@ -194,4 +197,15 @@ pub fn set_find(bytes: &[u8], id: u32) -> Member
     ensures { λ r. ⌜ memberOf r ≡ setFind (now (bytes .entry)) id ⌝ }
 {
     set_check::find(bytes, id)
+}
+
+// ---- another maker's id section (document 02, [9])
+
+// Judges a bare id section, without a header of ours, by its bytes, its number of jump entries, its rank power and its byte order: accepted
+// with the number of ids, or the first fault with its reason and its place. A power or an entry count outside document 01's limits is told
+// before a byte is read.
+pub fn judge_section(bytes: &[u8], jump_count: u64, power: u64, order: ByteOrder) -> Judgement
+    ensures { λ r. ⌜ judgementOf r ≡ judgeSection (orderOf order) power «jump_count» (now (bytes .entry)) ⌝ }
+{
+    checking::section::judge_section(bytes, jump_count, power, order)
 }

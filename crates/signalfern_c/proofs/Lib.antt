@@ -1,2 +1,3 @@
 -- Laws of the boundary.
 pub mod Shown
+pub mod Judged

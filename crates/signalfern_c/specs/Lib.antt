@@ -1,3 +1,4 @@
 pub mod Boundary
 pub mod Layers
 pub mod Sets
+pub mod Sections

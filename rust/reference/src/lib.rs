@@ -7,6 +7,7 @@
 
 mod header;
 mod ids;
+mod judge;
 mod layered;
 mod look_up;
 mod lucene;
@@ -17,6 +18,7 @@ mod sparse;
 mod values;
 
 pub use header::{open, Column};
+pub use judge::{judge_section, Judgement};
 pub use layered::{
     layered_values, look_up_layered, look_up_layered_in, Layer, LayeredAnswer, LayeredLook,
 };

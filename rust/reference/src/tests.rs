@@ -3,6 +3,7 @@
 
 mod divisor;
 mod editions;
+mod judge;
 mod layered;
 mod next;
 mod page;

@@ -1,5 +1,5 @@
 -- `blocks::ones_from` meets its contract. Assumes nothing.
-use Rattle.format.specs.Kit.{_≡_, ap, _∙_, _+_, _-_, _*_, _≤_, arith, needs, onesIn, zero-add}
+use Rattle.format.specs.Kit.{_≡_, _∙_, _+_, _-_, _*_, _≤_, arith, needs, zero-add}
 use Rattle.blocks.proofs.Ones.{ones-begin, ones-on, ones-end}
 use Rattle.format.specs.LookUp.{onesFrom}
 use Rattle.blocks.proofs.ones_from.Statement.{statement}
@@ -13,10 +13,9 @@ abbrev μ-loop : tie.MeasureT-loop
 
 loop-again : tie.Need-loop-again Inv-loop μ-loop
 loop-again c =
-    let a = c .before .before .before .before .before .args in
-    let l = c .before .before .before .loop in
-    let one = c .ones-of .ensures .0 ∙ ap (onesIn 64) (c .before .long-at .ensures) in
-    (omega (arith, l .inv .0, ones-on (a .s .now) (a .m) (a .n) (l .i) (a .first) (omega arith), one), omega arith, omega arith)
+    let a = c .before .before .before .before .args in
+    let l = c .before .before .loop in
+    (omega (arith, l .inv .0, ones-on (a .s .now) (a .m) (a .n) (l .i) (a .first) (omega arith), c .ones-at .ensures .0), omega arith, omega arith)
 
 returns : tie.Need-returns Inv-loop μ-loop
 returns c =
@@ -28,7 +27,6 @@ pub ones-from-spec : {M : Type 1} → statement M
 ones-from-spec =
     tie.close (tie.spec Inv-loop μ-loop
     (λ c. let a = c .before .args in (zero-add _ ∙ ones-begin (a .s .now) (a .m) (a .n) (a .first), omega arith, omega arith))
-    (λ c. search needs) (λ c. search needs) (λ c. search needs) (λ c κs. search needs) (λ c κs. search needs) (λ c. search needs)
-    (λ c. search needs) (λ c. search needs)
+    (λ c. search needs) (λ c κs. search needs) (λ c. search needs) (λ c. search needs) (λ c. search needs)
     loop-again
     returns)

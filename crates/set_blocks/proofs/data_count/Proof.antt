@@ -1,9 +1,11 @@
 -- `set_blocks::data_count` meets its contract. Assumes nothing.
-use Rattle.format.specs.Kit.{_≡_, sym, ap, _∙_, _+_, _≤_, arith, length, needs, not-false, not-true}
-use Rattle.format.specs.Pairs.{Below}
+use Rattle.format.specs.Kit.{_≡_, sym, ap, _∙_, _+_, _≤_, arith, length, drop, needs, not-false, not-true}
+use Rattle.format.specs.IdsRead.{shorts}
+use Rattle.format.specs.Pairs.{Below, ascFrom}
 use Rattle.format.specs.SetBytes.{setKind}
 use Rattle.format.specs.SetCalls.{setDataBytes}
 use Rattle.format.proofs.Digits.{below-all}
+use Rattle.judge.proofs.LowFirst.{shorts-low}
 use Rattle.set_format.proofs.ByKind.{bytes-bitmap, bytes-list, count-bitmap, count-listed, count-missing, cut-off, length-le, not-ascending, other-ones}
 use Rattle.set_blocks.proofs.data_count.Statement.{statement}
 use Rattle.set_blocks.proofs.data_count.Tie as tie
@@ -46,12 +48,17 @@ ascending-requires c κs =
     let s = c .before .before .before .before .before in
     omega (arith, fits (c .before), bytes-list (s .args .kind) (s .args .c) (omega (arith, s .pre .0, c .if3 .left)))
 
+-- what was asked of the shorts
+asked : (c : tie.After-ascending)
+    → let a = c .before .before .before .before .before .before .args in c .ascending .result ≡ ascFrom 0 (shorts (a .c) (drop (a .at) (a .s .now)))
+asked c = c .ascending .ensures ∙ ap (ascFrom 0) (shorts-low _ _)
+
 returns-5 : tie.Need-returns-5
 returns-5 c =
     let b = c .before .before in
     let s = b .before .before .before .before .before in
     let a = s .args in
-    let e = sym (c .before .ascending .ensures) ∙ not-true _ (c .if5 .taken) in
+    let e = sym (asked (c .before)) ∙ not-true _ (c .if5 .taken) in
     sym (not-ascending (a .kind) (a .c) (a .s .now) (a .at) (omega (arith, s .pre .0, b .if3 .left)) (fits (b .before)) e)
 
 sub-long : tie.Need-sub-long
@@ -64,7 +71,7 @@ returns-6 c =
     let f = c .before .before in
     let b = f .before .before .before in
     let a = b .before .before .before .before .args in
-    let e = sym (f .before .ascending .ensures) ∙ not-false _ (f .if5 .left) in
+    let e = sym (asked (f .before)) ∙ not-false _ (f .if5 .left) in
     c .long .ensures ∙ sym (count-missing (a .kind) (a .c) (a .s .now) (a .at) (all-bytes b) (c .before .if6 .taken) (fits b) e)
 
 returns-7 : tie.Need-returns-7
@@ -73,7 +80,7 @@ returns-7 c =
     let b = f .before .before .before in
     let s = b .before .before .before .before in
     let a = s .args in
-    let e = sym (f .before .ascending .ensures) ∙ not-false _ (f .if5 .left) in
+    let e = sym (asked (f .before)) ∙ not-false _ (f .if5 .left) in
     let zero-kind : a .kind ≡ 0 = omega (arith, s .pre .0, f .before .before .if3 .left, c .before .if6 .left) in
     c .long2 .ensures ∙ sym (count-listed (a .kind) (a .c) (a .s .now) (a .at) zero-kind (fits b) e)
 

@@ -21,6 +21,7 @@ mod header;
 mod help;
 mod input;
 mod json;
+mod judge;
 mod lines;
 mod load;
 mod look_up;

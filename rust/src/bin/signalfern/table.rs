@@ -2,7 +2,7 @@
 //! completions are all made from this table.
 
 use crate::command::{flag, option, Choice, Command, Value};
-use crate::{audit, check, demo, help, look_up, next, read, set, show, write};
+use crate::{audit, check, demo, help, judge, look_up, next, read, set, show, write};
 
 /// What the tool is, above the list of commands.
 pub const ABOUT: &str = "score columns, by proved calls";
@@ -24,7 +24,7 @@ checksum, and most changes of a stored value give another sound column. To know 
 one that was written, compare its SHA-256 digest: --digest, or a file COLUMN.sha256 beside it.";
 
 pub static COMMANDS: &[Command] = &[
-    WRITE, CHECK, READ, LOOK_UP, NEXT, AUDIT, SHOW, SET, DEMO, HELP,
+    WRITE, CHECK, READ, LOOK_UP, NEXT, AUDIT, SHOW, JUDGE, SET, DEMO, HELP,
 ];
 
 const WRITE: Command = Command {
@@ -266,6 +266,44 @@ const SET: Command = Command {
     run: set::run,
 };
 
+const JUDGE: Command = Command {
+    name: "judge",
+    words: "FILE --jumps N --power P [--lucene8]",
+    summary: "tell whether another maker's id section is right",
+    text: &[
+        "Judges a bare id section, as Lucene's IndexedDISI writes it, without a header of ours: accepted, \
+         with how many ids it holds, or faulty, with the first reason and its byte. The count of jump \
+         entries and the rank power stand beside a section and not in it, so both have to be told.",
+        "The reasons, in the order in which they are tested, block by block: 1 CUT_OFF, 2 BLOCK_ORDER, \
+         3 PLACE_ORDER, 4 ONES, 5 RANK, 6 END_BLOCK; then 7 JUMPS, 8 LEFT_OVER.",
+    ],
+    options: &[
+        option(
+            Some('j'),
+            "jumps",
+            ("N", Value::Other),
+            "how many jump entries the section has: 0 to 32767",
+        ),
+        option(
+            Some('p'),
+            "power",
+            (
+                "P",
+                Value::OneOf(&["0", "7", "8", "9", "10", "11", "12", "13", "14", "15"]),
+            ),
+            "its rank power: 0 for no ranks, or 7 to 15",
+        ),
+        flag(
+            None,
+            "lucene8",
+            "numbers are high byte first, as Lucene 8 writes them, and not low byte first as Lucene 9 \
+             does",
+        ),
+    ],
+    operands: Value::File,
+    run: judge::run,
+};
+
 const DEMO: Command = Command {
     name: "demo",
     words: "[FOLDER]",
@@ -300,7 +338,8 @@ const HELP: Command = Command {
         ),
     ],
     operands: Value::OneOf(&[
-        "write", "check", "read", "look-up", "next", "audit", "show", "set", "demo", "help",
+        "write", "check", "read", "look-up", "next", "audit", "show", "judge", "set", "demo",
+        "help",
     ]),
     run: help::run,
 };

@@ -4,7 +4,7 @@ use Rattle.format.specs.Kit.{_≡_, sym, ap, ap₂, _∙_, _&&_, ℕ, _+_, _-_,
 use Rattle.format.specs.Ids.{rankBytes}
 use Rattle.format.specs.LookUp.{onesFrom}
 use Rattle.format.proofs.Sizes.{ranks-none, stride-fits, stride-next}
-use Rattle.judge.specs.Judge.{ranksFrom}
+use Rattle.format.specs.Judge.{ranksFrom}
 use Rattle.format.proofs.Ones.{ones-none, ones-grow, ones-moved}
 use Rattle.section_check.proofs.BlockTests.{ranks-free, ranks-begin, ranks-turn, ranks-last, strides-all}
 use Rattle.section_check.proofs.block.count_words.Statement.{statement}
@@ -44,11 +44,12 @@ fits c =
     let st = l .before .before .before .before .before in
     stride-fits (st .args .p) (l .loop .j) (st .pre .0) (l .before .before .before .if1 .left) (omega arith)
 
-ones-from-requires-2 : tie.Need-ones-from-requires-2 Inv-loop μ-loop
-ones-from-requires-2 c κs =
+stride-ones-requires : tie.Need-stride-ones-requires Inv-loop μ-loop
+stride-ones-requires c κs =
     let l = c .before .before .before in
+    let st = l .before .before .before .before .before in
     let f = fits (c .before .before) in
-    (omega (arith, l .before .before .before .before .before .pre .1), omega arith)
+    (st .pre .0 .least (l .before .before .before .if1 .left), st .pre .0 .most, omega (arith, st .pre .1))
 
 loop-again : tie.Need-loop-again Inv-loop μ-loop
 loop-again c =
@@ -60,7 +61,8 @@ loop-again c =
     (c .before .before .rank-at .ensures .0)
     (ones-moved (a .s .now) _ _ _ _ (i .1) (i .2)) in (
       e ∙ i .0,
-      ap₂ _+_ (i .1) (c .ones-from2 .ensures .0) ∙ sym (ones-grow (a .s .now) _ (l .loop .first) _),
+      ap₂ _+_ (i .1) (c .stride-ones .ensures .0) ∙ sym (ones-grow (a .s .now) _ (l .loop .first) _)
+          ∙ ap (λ (x : ℕ). onesFrom (a .s .now) (a .t + l .before .before .rank-bytes .result) (l .loop .first + x) 0) (sym (l .before .stride .ensures .0)),
       ap₂ _+_ (i .2) (l .before .stride .ensures .0) ∙ stride-next (l .loop .j) (2 ^ (a .p - 6)),
       omega arith,
       omega arith,
@@ -88,7 +90,7 @@ count-words-spec =
     (λ c κs. let q = c .before .before .before .pre .0 in (omega (arith, q .least (c .before .if1 .left)), omega arith))
     loop-holds
     (λ c. search needs) (λ c. search needs) (λ c κs. search needs) (λ c κs. search needs)
-    ones-from-requires-2
+    stride-ones-requires
     (λ c. let f = fits (c .before .before .before) in omega arith)
     (λ c. let f = fits (c .before .before .before) in omega arith)
     (λ c. search needs) (λ c. search needs)

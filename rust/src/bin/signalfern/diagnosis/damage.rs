@@ -1,17 +1,43 @@
 //! DAMAGED: the first place that differs from what the writer would give.
 
+use signalfern::{ByteOrder, Fault};
+
 use super::{ids, values, Diagnosis, Finding, COPY_AGAIN};
 use crate::blocks::Section;
 use crate::header::Header;
+use crate::judge::block_of;
+use crate::text::byte_at;
 
 pub fn explain(header: &Header, bytes: &[u8]) -> Diagnosis {
-    let line = match find(header, bytes) {
+    let first = match find(header, bytes) {
         Some(Finding { at, part, why }) => {
             format!("first wrong place: byte {at}, {part}: {why}")
         }
         None => "the place could not be found".to_string(),
     };
-    Diagnosis::new(vec![line], COPY_AGAIN)
+    let lines = judged(header, bytes).into_iter().chain([first]);
+    Diagnosis::new(lines.collect(), COPY_AGAIN)
+}
+
+/// What the proved judge says of the id section, where that is the faulty part: block, reason and place.
+/// The walk below then says more of it, by what jump entries and ranks tell a second time.
+fn judged(header: &Header, bytes: &[u8]) -> Option<String> {
+    let section = signalfern::Section {
+        bytes: bytes
+            .get(header.len()..)?
+            .get(..usize::try_from(header.id_bytes).ok()?)?,
+        jump_count: header.jump_count,
+        power: header.power,
+        order: ByteOrder::LowFirst,
+    };
+    let Err(Fault::At { reason, place }) = section.judge() else {
+        return None;
+    };
+    let (code, block) = (reason.name(), block_of(&section, reason, place));
+    let at = byte_at(header.len() + place);
+    Some(format!(
+        "the id section is faulty, {code}, from {at}{block} on: {reason}"
+    ))
 }
 
 /// Ids, jump entries and values are tried in the order of the file. The bytes have the length that

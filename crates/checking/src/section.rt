@@ -1,0 +1,44 @@
+// The judgement of a bare id section (document 02, [9]).
+ghost use mathlib.Core.Path.{_≡_};
+ghost use Prim.Native.Nat.{_≤_};
+ghost use Rattle.format.specs.Judge.{judgeSection};
+ghost use Rattle.format.specs.Replies.{orderOf, reasonNumber, judgementOf};
+use column::Column;
+use format::ByteOrder;
+use format::Judgement;
+use format::Reason;
+use section_check::Verdict;
+
+fn reason_of(why: u64) -> Reason
+    requires { ⌜ (1 ≤ why) × (why ≤ 8) ⌝ }
+    ensures { λ r. ⌜ reasonNumber r ≡ why ⌝ }
+{
+    match why {
+        1 => Reason::CutOff,
+        2 => Reason::BlockOrder,
+        3 => Reason::PlaceOrder,
+        4 => Reason::OnesUnlike,
+        5 => Reason::RankWrong,
+        6 => Reason::EndWrong,
+        7 => Reason::JumpWrong,
+        _ => Reason::LeftOver,
+    }
+}
+
+// Accepted with the number of ids, or the first fault; an entry count or a power outside document 01's limits is told before a byte is read.
+pub fn judge_section(bytes: &[u8], jump_count: u64, power: u64, order: ByteOrder) -> Judgement
+    ensures { λ r. ⌜ judgementOf r ≡ judgeSection (orderOf order) power «jump_count» (now (bytes .entry)) ⌝ }
+{
+    if !column::power_ok(power) {
+        return Judgement::Header;
+    }
+    if jump_count > Column::MAX_JUMPS {
+        return Judgement::Header;
+    }
+    let p = numbers::size(power);
+    let j = numbers::size(jump_count);
+    match section_check::judge(bytes, order, p, j) {
+        Verdict::Accepted(n) => Judgement::Accepted(n),
+        Verdict::Faulty(why, at) => Judgement::Faulty(reason_of(why), numbers::long(at)),
+    }
+}
