@@ -3,7 +3,7 @@
  *
  * A column is a byte string that holds n pairs: an id (0 to 2147352575, strictly ascending) and a
  * signed 64-bit value. It can be written, checked, read whole, asked for one id or for a page of them,
- * walked over from id to id, and overlaid with a correction. x86-64 Linux.
+ * walked over from id to id, searched for a value, and overlaid with a correction. x86-64 Linux.
  *
  *     cc program.c $(pkg-config --cflags --libs signalfern)     after `make install`
  *
@@ -53,11 +53,15 @@ extern "C" {
 /* The rank power that fits most columns, and Lucene's. */
 #define SIGNALFERN_USUAL_POWER 9u
 
-/* The editions: how a column stores its values. Every call takes columns of each, and the writer is
- * told one. */
+/* The editions: how a column stores its values. Every call takes columns of each, but for
+ * signalfern_first_between, which is for edition 3; the writer is told one. */
 #define SIGNALFERN_PLAIN 1u  /* stored numbers of the least width from 0 to 64, high bit first */
 #define SIGNALFERN_LUCENE 2u /* packed as Lucene 9 packs: low bit first, at the least of the widths 1, 2, 4,
                                 8, 12, 16, 20, 24, 28, 32, 40, 48, 56 and 64 that suffices, or 0 */
+#define SIGNALFERN_RUNS 3u   /* runs of SIGNALFERN_RUN_LENGTH values, the last maybe shorter, each with a
+                                width and a smallest value of its own; a directory before them tells these
+                                and the greatest value of each run. Packed as edition 1 */
+#define SIGNALFERN_RUN_LENGTH 16384u
 
 /*
  * Refusals. The number with a refusal is 0 where nothing else is said.
@@ -73,14 +77,17 @@ enum {
     SIGNALFERN_NUMBER = 8,   /* a header number is not minimal, or is 2^64 or more; with the place,
                                 from 0, of the byte that decided it: the 0 that ends a number of
                                 several bytes, or the tenth byte of one that is not 1 */
-    SIGNALFERN_EDITION = 9,  /* the first header number, or what the writer was told, is no edition */
+    SIGNALFERN_EDITION = 9,  /* the first header number, or what the writer was told, is no edition; or it
+                                is not the one that signalfern_first_between is for */
     SIGNALFERN_HEADER = 10,  /* a header rule is broken */
     SIGNALFERN_LENGTH = 11,  /* header, id section and value section are not the byte count */
     SIGNALFERN_BUFFER = 12,  /* the ids or the values buffer is shorter than n, or a list for a page's
                                 answers shorter than its ids; with the places needed */
     SIGNALFERN_DAMAGED = 13, /* the bytes are no column of any pair list */
     SIGNALFERN_ID = 14,      /* the looked-up id, or the target, is above SIGNALFERN_MAX_ID */
-    SIGNALFERN_BROKEN = 15,  /* a step of the look-up fails: the bytes are damaged */
+    SIGNALFERN_BROKEN = 15,  /* a step of the look-up fails: the bytes are damaged. In edition 3 a run's
+                                width above 64 and a stored number that reaches past the section are such
+                                failures too */
     SIGNALFERN_BACK = 16     /* the target is below the last one answered */
 };
 
@@ -90,8 +97,8 @@ typedef struct {
     uint64_t number;  /* Done: see the call. Otherwise the number with the refusal. */
 } signalfern_reply;
 
-/* The kinds of an answer that are no refusal: of a look-up the first two, of signalfern_next the
- * first and the last. Refusal 1 is never given by these calls. */
+/* The kinds of an answer that are no refusal: of a look-up the first two, of signalfern_next and
+ * signalfern_first_between the first and the last. Refusal 1 is never given by these calls. */
 enum { SIGNALFERN_FOUND = 0, SIGNALFERN_ABSENT = 1, SIGNALFERN_NONE = 1 };
 
 /* What a look-up answers. Fields that a case does not name hold 0. */
@@ -119,14 +126,15 @@ typedef struct {
 typedef struct {
     uint64_t refusal;     /* 0: opened. Otherwise the refusal: 7 to 11. */
     uint64_t number;      /* Opened: 0. Otherwise the number with the refusal. */
-    uint64_t edition;     /* the edition: SIGNALFERN_PLAIN or SIGNALFERN_LUCENE */
+    uint64_t edition;     /* the edition: SIGNALFERN_PLAIN, SIGNALFERN_LUCENE or SIGNALFERN_RUNS */
     uint64_t count;       /* n, the count of pairs */
     uint64_t power;       /* p, the rank power: 0 or 7 to 15 */
     uint64_t id_bytes;    /* L, the bytes of the id section */
     uint64_t jump_count;  /* J, the count of jump entries */
-    uint64_t width;       /* w, the bits of a stored number: 0 to 64, of which edition 2 has some only */
+    uint64_t width;       /* w, the bits of a stored number: 0 to 64, of which edition 2 has some only;
+                             0 in edition 3, whose runs have their own */
     uint64_t smallest;    /* the smallest value v as the header has it: 2v, or -2v-1 if v < 0;
-                             signalfern_smallest gives v */
+                             signalfern_smallest gives v; 0 in edition 3, whose runs have their own */
     uint64_t divisor;     /* g, the divisor of the values' differences: at least 1 */
     uint64_t value_bytes; /* V, the bytes of the value section */
     uint64_t start;       /* the bytes of the header: where the id section starts */
@@ -149,6 +157,13 @@ typedef struct {
     int64_t value;            /* Found: its value. */
     signalfern_cursor cursor; /* Found or none: the target is its last. Refused: the cursor as it was. */
 } signalfern_candidate;
+
+/* What signalfern_first_between answers. Fields that a case does not name hold 0. */
+typedef struct {
+    uint64_t kind;    /* SIGNALFERN_FOUND, SIGNALFERN_NONE, or the refusal: 7 to 11, 15. */
+    uint64_t number;  /* Refused: the number with the refusal. */
+    uint64_t ordinal; /* Found: the first index in the list, from 0, whose value is in the range. */
+} signalfern_between;
 
 /* The two columns of a look-up with a correction on top. */
 enum { SIGNALFERN_MACHINE = 0, SIGNALFERN_CORRECTION = 1 };
@@ -202,8 +217,9 @@ typedef struct {
 /*
  * Writes the column of the pairs (ids[i], values[i]) to the front of out.
  *
- * edition is SIGNALFERN_PLAIN or SIGNALFERN_LUCENE. power is the rank power: 0 for none, or 7 to 15 for
- * one rank to every 2^power places of a dense block (SIGNALFERN_USUAL_POWER is a good choice).
+ * edition is SIGNALFERN_PLAIN, SIGNALFERN_LUCENE or SIGNALFERN_RUNS. power is the rank power: 0 for none,
+ * or 7 to 15 for one rank to every 2^power places of a dense block (SIGNALFERN_USUAL_POWER is a good
+ * choice).
  *
  * Done: number is the column's byte count; exactly these bytes of out were written, and those after
  * them stay as they were. Refused: the first that applies of 1, 9, 2, 3, 4 and 6, and out stays as it
@@ -302,6 +318,28 @@ signalfern_candidate signalfern_next(signalfern_cursor cursor,
  */
 signalfern_candidate signalfern_next_in(signalfern_column column, signalfern_cursor cursor,
                                         const uint8_t *bytes, size_t len, uint32_t target);
+
+/*
+ * Finds the first ordinal with a value from low to high, both included, in a column of edition 3. It goes
+ * by the directory: a run whose smallest value is above high, or whose greatest is below low, is skipped
+ * unread, and of any other the values are read in turn.
+ *
+ * Found, none or refused: 7 to 11, and 9 for any other edition, as soon as the first header number is read;
+ * then, where low is above high, none; then 15 for a value that a look-up would call broken, in a run that
+ * is not skipped and before the answer. On bytes that signalfern_check accepts the answer is that of a plain
+ * scan of the values. On other bytes the directory is believed: what it says of a run decides whether the
+ * run is read.
+ */
+signalfern_between signalfern_first_between(const uint8_t *bytes, size_t len, int64_t low, int64_t high);
+
+/*
+ * The same in a column opened before. With the column of signalfern_open(bytes, len), not refused, and the
+ * same bytes, the answer is that of signalfern_first_between(bytes, len, low, high). Any other column is
+ * allowed too. Refused: 9 where its edition is not SIGNALFERN_RUNS, which comes first here too; then 10 and
+ * 11 as by signalfern_look_up_in; then 15.
+ */
+signalfern_between signalfern_first_between_in(signalfern_column column,
+                                               const uint8_t *bytes, size_t len, int64_t low, int64_t high);
 
 /*
  * Looks one id up in a machine column with a correction on top.

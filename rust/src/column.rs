@@ -134,13 +134,14 @@ impl<'a> Column<'a> {
         self.numbers.jump_count
     }
 
-    /// w, the bits of a stored number: 0 to 64, of which edition 2 has some only.
+    /// w, the bits of a stored number: 0 to 64, of which edition 2 has some only. In edition 3 it is 0:
+    /// its runs have their own.
     #[must_use]
     pub const fn width(&self) -> u64 {
         self.numbers.width
     }
 
-    /// The smallest value.
+    /// The smallest value. In edition 3 it is 0: its runs have their own.
     ///
     /// ```
     /// use signalfern::Edition;

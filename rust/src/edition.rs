@@ -1,6 +1,7 @@
 //! The editions of a column.
 
-/// How a column stores its values. Every call takes columns of each edition; the writer is told one.
+/// How a column stores its values. Every call takes columns of each edition, but for
+/// [`first_between`](crate::first_between), which is for one of them; the writer is told one.
 ///
 /// ```
 /// use signalfern::{Column, Edition};
@@ -23,6 +24,28 @@ pub enum Edition {
     /// Edition 2: packed as Lucene 9 packs, low bit first, at the least of its widths (1, 2, 4, 8, 12,
     /// 16, 20, 24, 28, 32, 40, 48, 56 and 64), or 0.
     Lucene,
+    /// Edition 3: runs of [`RUN_LENGTH`](crate::RUN_LENGTH) values, each packed as edition 1 with a width
+    /// and a smallest value of its own, and a directory before them that tells the smallest and the
+    /// greatest value of each. For columns that mix small and great values, and for
+    /// [`first_between`](crate::first_between).
+    ///
+    /// ```
+    /// use signalfern::{Column, Edition};
+    ///
+    /// // One great value among small ones: edition 1 gives each of them 41 bits.
+    /// let ids: Vec<u32> = (0..100_000).collect();
+    /// let values = ids.iter().map(|id| if *id == 500 { 1 << 40 } else { i64::from(id % 8) });
+    /// let values: Vec<i64> = values.collect();
+    /// let plain = signalfern::write_to_vec(&ids, &values, Edition::Plain, 9)?;
+    /// let runs = signalfern::write_to_vec(&ids, &values, Edition::Runs, 9)?;
+    /// assert_eq!(Column::open(&plain)?.value_bytes(), 41 * 100_000 / 8);
+    /// // The first run has 41 bits for each of its values, the six others have 3.
+    /// let packed = 41 * 16_384 / 8 + 3 * (100_000 - 16_384) / 8;
+    /// assert_eq!(Column::open(&runs)?.value_bytes(), 7 * 25 + packed);
+    /// assert_eq!(signalfern::read_to_vecs(&runs)?, (ids, values));
+    /// # Ok::<(), signalfern::Error>(())
+    /// ```
+    Runs,
 }
 
 impl Edition {
@@ -40,6 +63,7 @@ impl Edition {
         match number {
             1 => Some(Self::Plain),
             2 => Some(Self::Lucene),
+            3 => Some(Self::Runs),
             _ => None,
         }
     }
@@ -50,6 +74,7 @@ impl Edition {
         match self {
             Self::Plain => 1,
             Self::Lucene => 2,
+            Self::Runs => 3,
         }
     }
 }

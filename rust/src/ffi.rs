@@ -67,6 +67,14 @@ pub(crate) struct Candidate {
 
 #[repr(C)]
 #[derive(Clone, Copy)]
+pub(crate) struct Between {
+    pub kind: u64,
+    pub number: u64,
+    pub ordinal: u64,
+}
+
+#[repr(C)]
+#[derive(Clone, Copy)]
 pub(crate) struct Layered {
     pub kind: u64,
     pub number: u64,
@@ -145,6 +153,14 @@ extern "C" {
         len: usize,
         target: u32,
     ) -> Candidate;
+    fn signalfern_first_between(bytes: *const u8, len: usize, low: i64, high: i64) -> Between;
+    fn signalfern_first_between_in(
+        column: Column,
+        bytes: *const u8,
+        len: usize,
+        low: i64,
+        high: i64,
+    ) -> Between;
     fn signalfern_look_up_layered(
         machine: *const u8,
         machine_len: usize,
@@ -271,6 +287,16 @@ pub(crate) fn next(cursor: Cursor, bytes: &[u8], target: u32) -> Candidate {
 pub(crate) fn next_in(column: Column, cursor: Cursor, bytes: &[u8], target: u32) -> Candidate {
     // SAFETY: a slice with its own length, only read; the call takes any column and any cursor.
     unsafe { signalfern_next_in(column, cursor, bytes.as_ptr(), bytes.len(), target) }
+}
+
+pub(crate) fn first_between(bytes: &[u8], low: i64, high: i64) -> Between {
+    // SAFETY: a slice with its own length, only read.
+    unsafe { signalfern_first_between(bytes.as_ptr(), bytes.len(), low, high) }
+}
+
+pub(crate) fn first_between_in(column: Column, bytes: &[u8], low: i64, high: i64) -> Between {
+    // SAFETY: a slice with its own length, only read; the call takes any column.
+    unsafe { signalfern_first_between_in(column, bytes.as_ptr(), bytes.len(), low, high) }
 }
 
 pub(crate) fn look_up_layered(machine: &[u8], correction: &[u8], id: u32) -> Layered {

@@ -1,12 +1,13 @@
 //! Score columns: byte strings that hold pairs of an id and a signed 64-bit value, with the ids
 //! strictly ascending.
 //!
-//! There are nine calls on columns: [`write()`] a column, [`check`] one, [`read`] it whole, [`look_up`] one id or a
-//! page of them ([`look_up_page`]), find the [`next()`] listed one, look an id up in a column with a
-//! correction on top ([`look_up_layered`]) and show the bytes that hold it ([`layered_values`]), and
-//! [`Column::open`] for many such questions to the same columns. Each is a thin wrapper of a call that
-//! is written and proved in Rattle: its answer, its refusal and every lent byte afterwards are those
-//! that document 01 ("Full scope and exact rules") and the requests of document 02 fix, on every input.
+//! There are ten calls on columns: [`write()`] a column, [`check`] one, [`read`] it whole, [`look_up`] one
+//! id or a page of them ([`look_up_page`]), find the [`next()`] listed one, find the first value in a range
+//! ([`first_between`]), look an id up in a column with a correction on top ([`look_up_layered`]) and show
+//! the bytes that hold it ([`layered_values`]), and [`Column::open`] for many such questions to the same
+//! columns. Each is a thin wrapper of a call that is written and proved in Rattle: its answer, its refusal
+//! and every lent byte afterwards are those that document 01 ("Full scope and exact rules") and the
+//! requests of document 02 fix, on every input.
 //! This wrapper, the C boundary below it and the compiler's back end are not proved; they are tested.
 //!
 //! Most programs want [`Checked`]: a column that was checked once, as a sorted map from ids to
@@ -49,6 +50,7 @@
 #[cfg(not(all(target_arch = "x86_64", target_os = "linux")))]
 compile_error!("the proved library is built for x86-64 Linux alone");
 
+mod between;
 mod calls;
 mod checked;
 mod column;
@@ -62,7 +64,9 @@ mod pairs;
 mod refusal;
 mod section;
 mod set;
+mod values;
 
+pub use between::first_between;
 pub use calls::{check, look_up, read, read_to_vecs, write, write_pairs, write_to_vec, Answer};
 pub use checked::Checked;
 pub use column::{Column, Header};
@@ -81,6 +85,9 @@ pub const MAX_ID: u32 = 2_147_352_575;
 
 /// The greatest count of pairs.
 pub const MAX_COUNT: u64 = 2_147_352_576;
+
+/// How many values a run of [`Edition::Runs`] has; the last one may have fewer.
+pub const RUN_LENGTH: usize = 16_384;
 
 /// The rank power that fits most columns, and Lucene's: a rank to every 512 places of a dense block.
 pub const USUAL_POWER: u32 = 9;

@@ -10,7 +10,8 @@ use std::fmt;
 use std::iter::FusedIterator;
 use std::ops::Range;
 
-use crate::{Checked, Column, Edition};
+use crate::values::Values;
+use crate::{Checked, Column};
 
 /// The pairs of a [`Checked`] column in order, from [`Checked::iter`] or [`Checked::iter_from`].
 ///
@@ -62,14 +63,7 @@ impl<'a> Pairs<'a> {
             power: column.power() as u32,
             base: 0,
             places: Places::All(0..0),
-            values: Values {
-                section,
-                edition: column.edition(),
-                width: column.width() as u32,
-                smallest: column.smallest(),
-                divisor: column.divisor(),
-                ordinal: entry.ordinal,
-            },
+            values: Values::of(column, section, entry.ordinal),
             left: column.len() - entry.ordinal,
         }
     }
@@ -282,71 +276,4 @@ impl Places<'_> {
             Self::All(places) => places.next(),
         }
     }
-}
-
-/// The values from an ordinal on.
-#[derive(Clone)]
-struct Values<'a> {
-    section: &'a [u8],
-    edition: Edition,
-    width: u32,
-    smallest: i64,
-    divisor: u64,
-    ordinal: usize,
-}
-
-impl Values<'_> {
-    /// The smallest value plus the divisor times the stored number: the check saw that it fits.
-    #[inline]
-    fn next(&mut self) -> i64 {
-        let offset = self.divisor.wrapping_mul(self.stored());
-        self.ordinal += 1;
-        self.smallest.wrapping_add_unsigned(offset)
-    }
-
-    /// The stored number of the ordinal: `width` bits, in the edition's order.
-    #[inline]
-    fn stored(&self) -> u64 {
-        if self.width == 0 {
-            return 0;
-        }
-        let bit = self.ordinal * self.width as usize;
-        let (bytes, skip) = (&self.section[bit / 8..], bit % 8);
-        match self.edition {
-            Edition::Plain => high_first(bytes, skip, self.width),
-            Edition::Lucene => low_first(bytes, skip, self.width),
-        }
-    }
-}
-
-/// A number of 1 to 64 bits after `skip` bits, high bit first.
-#[inline]
-fn high_first(bytes: &[u8], skip: usize, width: u32) -> u64 {
-    match bytes.first_chunk() {
-        // Eight bytes hold it, wherever in the first of them it starts.
-        Some(&eight) if width <= 57 => u64::from_be_bytes(eight) << skip >> (64 - width),
-        _ => wide_or_last(bytes, skip, width),
-    }
-}
-
-/// One that touches nine bytes, or bytes near the end: none past it is read.
-#[inline(never)]
-fn wide_or_last(bytes: &[u8], skip: usize, width: u32) -> u64 {
-    let mut window = [0; 16];
-    let there = bytes.len().min(9);
-    window[..there].copy_from_slice(&bytes[..there]);
-    (u128::from_be_bytes(window) << skip >> (128 - width)) as u64
-}
-
-/// A number of one of Lucene's widths after `skip` bits, low bit first. Eight bytes always hold it: the
-/// widths above 28 start at bytes.
-#[inline]
-fn low_first(bytes: &[u8], skip: usize, width: u32) -> u64 {
-    let eight = bytes.first_chunk().copied().unwrap_or_else(|| {
-        let mut last = [0; 8];
-        last[..bytes.len()].copy_from_slice(bytes);
-        last
-    });
-    let bits = u64::from_le_bytes(eight) >> skip;
-    bits & (u64::MAX >> (64 - width))
 }

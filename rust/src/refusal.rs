@@ -39,7 +39,8 @@ pub enum Refusal {
         /// or the tenth byte of one that is not 1.
         place: usize,
     },
-    /// The first header number, or what the writer was told, is the number of no edition.
+    /// The first header number, or what the writer was told, is the number of no edition; or it is not
+    /// the one that [`first_between`](crate::first_between) is for.
     Edition,
     /// A header rule is broken.
     Header,
@@ -195,7 +196,8 @@ impl fmt::Display for Refusal {
             ),
             Self::Edition => write!(
                 f,
-                "the edition is not 1 or 2: this is no column, or one of a later edition"
+                "the edition is not 1, 2 or 3, or not 3 where a value is searched for: this is no \
+                 column, or one of another edition"
             ),
             Self::Header => write!(
                 f,

@@ -63,14 +63,14 @@ static int pages(void)
 /* The editions: what the writer is told, and what a column of each is. Stored are 3, 1 and 0. */
 static int editions(void)
 {
-    PROMISE(SIGNALFERN_PLAIN == 1 && SIGNALFERN_LUCENE == 2);
+    PROMISE(SIGNALFERN_PLAIN == 1 && SIGNALFERN_LUCENE == 2 && SIGNALFERN_RUNS == 3);
     const uint32_t ids[] = {0, 2, 7}, twice[] = {4, 4};
     const int64_t values[] = {150, 140, 135};
     uint8_t out[64], before[64];
     memset(out, 0x5A, sizeof out);
     memcpy(before, out, sizeof out);
     /* Any other is refused with 9, after the lengths and before the power. */
-    const uint32_t none[] = {0, 3, 4, 257, UINT32_MAX};
+    const uint32_t none[] = {0, 4, 5, 257, UINT32_MAX};
     for (size_t i = 0; i < sizeof none / sizeof none[0]; i++) {
         signalfern_reply reply = signalfern_write(twice, 2, values, 3, none[i], 6, out, sizeof out);
         PROMISE(reply.refusal == SIGNALFERN_LENGTHS && reply.number == 0);
@@ -90,6 +90,82 @@ static int editions(void)
         PROMISE(same_answer(signalfern_look_up_in(column, out, 27, 2), SIGNALFERN_FOUND, 1, 140, 0, 1));
         PROMISE(signalfern_check(out, 27).number == 3);
     }
+    /* The same numbers after an entry of 25 bytes; the header has neither a width nor a smallest value. */
+    reply = signalfern_write(ids, 3, values, 3, SIGNALFERN_RUNS, 9, out, sizeof out);
+    PROMISE(reply.refusal == 0 && reply.number == 51 && out[0] == 3 && out[25] == 135 && out[49] == 2 && out[50] == 0xD0);
+    signalfern_column column = signalfern_open(out, 51);
+    PROMISE(column.refusal == 0 && column.edition == SIGNALFERN_RUNS && column.width == 0 && column.smallest == 0);
+    PROMISE(column.divisor == 5 && column.value_bytes == 26);
+    PROMISE(same_answer(signalfern_look_up_in(column, out, 51, 2), SIGNALFERN_FOUND, 1, 140, 0, 1));
+    PROMISE(signalfern_check(out, 51).number == 3);
+    return 0;
+}
+
+static int same_between(signalfern_between b, uint64_t kind, uint64_t number, uint64_t ordinal)
+{
+    return b.kind == kind && b.number == number && b.ordinal == ordinal;
+}
+
+/* The first value in a range: the range's ends, fields left free, refusals with their numbers, and any column. */
+static int between(void)
+{
+    PROMISE(sizeof(signalfern_between) == 24 && offsetof(signalfern_between, ordinal) == 16);
+    PROMISE(SIGNALFERN_RUN_LENGTH == 16384);
+    static uint32_t ids[SIGNALFERN_RUN_LENGTH + 2];
+    static int64_t values[SIGNALFERN_RUN_LENGTH + 2];
+    static uint8_t bytes[1 << 16];
+    const uint32_t count = SIGNALFERN_RUN_LENGTH + 2;
+    /* A run of 7, and then the smallest and the greatest value there are. */
+    for (uint32_t i = 0; i < count; i++) {
+        ids[i] = i;
+        values[i] = i < SIGNALFERN_RUN_LENGTH ? 7 : i == SIGNALFERN_RUN_LENGTH ? INT64_MIN : INT64_MAX;
+    }
+    size_t len = signalfern_write(ids, count, values, count, SIGNALFERN_RUNS, 9, bytes, sizeof bytes).number;
+    signalfern_column column = signalfern_open(bytes, len);
+    const struct {
+        int64_t low, high;
+        uint64_t kind, ordinal;
+    } cases[] = {
+        {7, 7, SIGNALFERN_FOUND, 0},
+        {INT64_MIN, INT64_MAX, SIGNALFERN_FOUND, 0},
+        {INT64_MIN, 6, SIGNALFERN_FOUND, SIGNALFERN_RUN_LENGTH},
+        {8, INT64_MAX, SIGNALFERN_FOUND, SIGNALFERN_RUN_LENGTH + 1},
+        {8, INT64_MAX - 1, SIGNALFERN_NONE, 0},
+        {8, 6, SIGNALFERN_NONE, 0},
+        {INT64_MAX, INT64_MIN, SIGNALFERN_NONE, 0},
+    };
+    for (size_t i = 0; i < sizeof cases / sizeof cases[0]; i++) {
+        signalfern_between by_bytes = signalfern_first_between(bytes, len, cases[i].low, cases[i].high);
+        signalfern_between by_column = signalfern_first_between_in(column, bytes, len, cases[i].low, cases[i].high);
+        PROMISE(same_between(by_bytes, cases[i].kind, 0, cases[i].ordinal));
+        PROMISE(memcmp(&by_bytes, &by_column, sizeof by_bytes) == 0);
+    }
+    /* Before a > b: the header, and an edition that has no directory by its first number alone. */
+    const uint8_t bad[] = {0x03, 0x80, 0x00}, other[] = {0x02, 0x80, 0x00};
+    PROMISE(same_between(signalfern_first_between(NULL, 0, 8, 6), SIGNALFERN_SHORT, 0, 0));
+    PROMISE(same_between(signalfern_first_between(bad, 2, 8, 6), SIGNALFERN_SHORT, 2, 0));
+    PROMISE(same_between(signalfern_first_between(bad, 3, 8, 6), SIGNALFERN_NUMBER, 2, 0));
+    PROMISE(same_between(signalfern_first_between(other, 3, 8, 6), SIGNALFERN_EDITION, 0, 0));
+    PROMISE(same_between(signalfern_first_between(other, 1, 6, 8), SIGNALFERN_EDITION, 0, 0));
+    PROMISE(same_between(signalfern_first_between(bytes, len - 1, 8, 6), SIGNALFERN_LENGTH, 0, 0));
+    /* Of any other column: the edition, the header rules, the length. */
+    PROMISE(same_between(signalfern_first_between_in(column, bytes, len - 1, 7, 7), SIGNALFERN_LENGTH, 0, 0));
+    column.refusal = 7;
+    column.number = 8;
+    PROMISE(same_between(signalfern_first_between_in(column, bytes, len, 7, 7), SIGNALFERN_FOUND, 0, 0));
+    column.width = 1;
+    PROMISE(same_between(signalfern_first_between_in(column, bytes, len - 1, 7, 7), SIGNALFERN_HEADER, 0, 0));
+    const uint64_t none[] = {0, SIGNALFERN_PLAIN, SIGNALFERN_LUCENE, 4, UINT64_MAX};
+    for (size_t i = 0; i < sizeof none / sizeof none[0]; i++) {
+        column.edition = none[i];
+        PROMISE(same_between(signalfern_first_between_in(column, bytes, len - 1, 7, 7), SIGNALFERN_EDITION, 0, 0));
+    }
+    /* The second run's width, the last byte of its entry, made 65: broken where the run is read. */
+    bytes[len - column.value_bytes + 49] = 65;
+    PROMISE(same_between(signalfern_first_between(bytes, len, 8, 9), SIGNALFERN_BROKEN, 0, 0));
+    PROMISE(same_between(signalfern_first_between(bytes, len, 7, 9), SIGNALFERN_FOUND, 0, 0));
+    PROMISE(same_answer(signalfern_look_up(bytes, len, SIGNALFERN_RUN_LENGTH), SIGNALFERN_BROKEN, 0, 0, 0, 0));
+    PROMISE(signalfern_check(bytes, len).refusal == SIGNALFERN_DAMAGED);
     return 0;
 }
 
@@ -140,7 +216,7 @@ static int next_refusals(signalfern_column column, const uint8_t *bytes, size_t 
     PROMISE(cut.kind == SIGNALFERN_SHORT && cut.number == 1 && cut.id == 0 && cut.cursor.last == 7);
     /* Of any other column: the header rules, an edition that is none among them, then the length. */
     PROMISE(same_next(signalfern_next_in(column, seven, bytes, len - 1, 8), SIGNALFERN_LENGTH, 0, 0, 0, 7));
-    column.edition = 3;
+    column.edition = 4;
     PROMISE(same_next(signalfern_next_in(column, seven, bytes, len - 1, 8), SIGNALFERN_HEADER, 0, 0, 0, 7));
     PROMISE(same_next(signalfern_next_in(column, seven, bytes, len, 6), SIGNALFERN_BACK, 0, 0, 0, 7));
     PROMISE(same_next(signalfern_next_in(column, seven, bytes, len, SIGNALFERN_MAX_ID + 1), SIGNALFERN_ID, 0, 0, 0, 7));
@@ -297,7 +373,7 @@ static int refused_columns(void)
     PROMISE(same_part(signalfern_layered_values(NULL, 0, c, c_len, 6), SIGNALFERN_CORRECTION, c_len - 1, 1));
 
     signalfern_column x = signalfern_open(m, m_len), y = signalfern_open(c, c_len);
-    x.edition = 3;
+    x.edition = 4;
     PROMISE(same_layered(signalfern_look_up_layered_in(x, m, 0, y, c, c_len, 6), SIGNALFERN_FOUND, SIGNALFERN_CORRECTION, 0, -3));
     PROMISE(same_layered(signalfern_look_up_layered_in(x, m, 0, y, c, c_len, 4), SIGNALFERN_HEADER, SIGNALFERN_MACHINE, 0, 0));
     y.edition = 0;
@@ -392,7 +468,7 @@ int main(void)
     column.power = 7;
     PROMISE(same_answer(signalfern_look_up_in(column, out, len, 4), SIGNALFERN_FOUND, 0, -1, 0, 1));
     /* An edition that is none: a header rule, after the id and before the length. */
-    const uint64_t none[] = {0, 3, 4, 257, UINT64_MAX};
+    const uint64_t none[] = {0, 4, 5, 257, UINT64_MAX};
     for (size_t i = 0; i < sizeof none / sizeof none[0]; i++) {
         column.edition = none[i];
         PROMISE(same_answer(signalfern_look_up_in(column, out, len, 4), SIGNALFERN_HEADER, 0, 0, 0, 0));
@@ -407,5 +483,6 @@ int main(void)
     refused.refusal = SIGNALFERN_LENGTH;
     PROMISE(memcmp(&column, &refused, sizeof column) == 0);
     PROMISE(same_answer(signalfern_look_up_in(column, out, len, 4), SIGNALFERN_HEADER, 0, 0, 0, 0));
-    return editions() || pages() || next_candidates() || corrections() || refused_columns() || sets() || sections();
+    return editions() || pages() || next_candidates() || between() || corrections() || refused_columns() || sets() ||
+           sections();
 }

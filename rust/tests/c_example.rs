@@ -77,6 +77,23 @@ id 2147352576: refused, ID
 }
 
 #[test]
+fn the_example_of_a_search_by_value() {
+    let printed = build_and_run(Path::new("examples/first_between.c"), &["-std=c99"]);
+    // Three entries of 25 bytes; two runs of 3 bits, and 7232 values of 20.
+    let expected = format!(
+        "\
+{} bytes of values
+from 5 to 6: ordinal 5
+from 8 to 2000000: ordinal 39000
+from -9 to -1: none
+from 0 to 9: refused, EDITION
+",
+        75 + 2 * 16_384 * 3 / 8 + 7232 * 20 / 8
+    );
+    assert_eq!(printed, expected);
+}
+
+#[test]
 fn the_boundary_is_as_the_header_says() {
     build_and_run(Path::new("rust/tests/boundary.c"), &["-std=c11"]);
 }

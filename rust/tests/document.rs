@@ -113,7 +113,8 @@ fn header_numbers() {
         ("81 80 80 80 80 80 80 80 80 81 00", number(9)),
         ("00", Refusal::Edition),
         ("02", short(1)),
-        ("03", Refusal::Edition),
+        ("03", short(1)),
+        ("04", Refusal::Edition),
         ("01", short(1)),
         // A rank power that is not allowed, and the last number is cut off.
         ("01 00 06 0E 01 00 00 01", short(8)),

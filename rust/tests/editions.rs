@@ -1,11 +1,13 @@
 //! Edition 2, Lucene 9's packing (document 02, [6]): its widths at their borders, its bytes by hand, the
-//! same calls for both editions, and a column whose first byte names the other one.
+//! same calls for editions 1 and 2, and a column whose first byte names the other one. (Edition 3: `runs`.)
 
 mod common;
 
 use common::damage::Tally;
 use common::parts::{self, Parts};
-use common::{bytes, few_ids, same, values_of_width, Random, EDITIONS, LUCENE_WIDTHS, POWERS};
+use common::{
+    bytes, few_ids, same, values_of_width, Random, EDITIONS, LUCENE_WIDTHS, PACKED, POWERS,
+};
 use signalfern::{Column, Edition, Refusal};
 
 /// Ids 0, 1, ... with these values, in edition 2.
@@ -28,8 +30,8 @@ fn numbers_of_the_editions() {
         assert_eq!(Edition::from_number(number.into()), Some(edition));
         assert_eq!(same::write_exactly(&[], &[], edition, 9)[0], number as u8);
     }
-    assert_eq!(EDITIONS.map(Edition::number), [1, 2]);
-    for number in [0, 3, 4, 257, 1 << 32 | 1, u64::MAX] {
+    assert_eq!(EDITIONS.map(Edition::number), [1, 2, 3]);
+    for number in [0, 4, 5, 257, 1 << 32 | 1, u64::MAX] {
         assert_eq!(Edition::from_number(number), None);
     }
     assert_eq!(Edition::default(), Edition::Plain);
@@ -151,7 +153,7 @@ fn widths_that_are_not_in_the_list() {
     }
 }
 
-/// The same pairs in both editions: every call gives the same, but for what the header says.
+/// The same pairs in editions 1 and 2: every call gives the same, but for what the header says.
 #[test]
 fn both_editions_by_the_same_calls() {
     let mut random = Random::new(81);
@@ -160,7 +162,7 @@ fn both_editions_by_the_same_calls() {
         let width = random.below(65) as u32;
         let values = values_of_width(&mut random, ids.len(), width);
         let power = POWERS[round % 10];
-        let [one, two] = EDITIONS.map(|edition| same::write_exactly(&ids, &values, edition, power));
+        let [one, two] = PACKED.map(|edition| same::write_exactly(&ids, &values, edition, power));
         let asked: Vec<u32> = (ids.iter()).flat_map(|&id| [id, id + 1]).collect();
         for id in asked {
             assert_eq!(same::look_up(&one, id), same::look_up(&two, id), "{id}");
@@ -190,7 +192,7 @@ fn the_first_byte_of_the_other_edition() {
         let ids = few_ids(&mut random, 12);
         let width = random.pick(&[0, 1, 2, 3, 4, 7, 8, 12, 16, 20, 32, 33, 56, 63, 64]);
         let values = values_of_width(&mut random, ids.len(), width);
-        for edition in EDITIONS {
+        for edition in PACKED {
             let mut column = same::write_exactly(&ids, &values, edition, 9);
             column[0] ^= 3;
             Tally::default().try_all(&column, &ids);

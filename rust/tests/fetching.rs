@@ -11,14 +11,18 @@ use signalfern_reference::Answer;
 /// Enough that a number starts at each place in a byte that its width leads to, and once more.
 const COUNT: usize = 17;
 
-/// The ids 0 to 16, with any value section. The smallest value is -2^63 and the divisor 1, so that
+/// The ids 0 to 16, with any stored numbers. The smallest value is -2^63 and the divisor 1, so that
 /// every number of 64 bits has a value.
 fn column(edition: Edition, width: usize, byte: impl FnMut(usize) -> u8) -> Parts {
     let ids: Vec<u32> = (0..COUNT as u32).collect();
     let written = signalfern::write_to_vec(&ids, &[i64::MIN; COUNT], edition, 9).unwrap();
     let mut parts = Parts::of(&written);
-    parts.numbers[parts::WIDTH] = width as u64;
-    parts.values = (0..(COUNT * width).div_ceil(8)).map(byte).collect();
+    match edition {
+        // The smallest value stands in the directory already.
+        Edition::Runs => parts.values[24] = width as u8,
+        _ => parts.numbers[parts::WIDTH] = width as u64,
+    }
+    (parts.values).extend((0..(COUNT * width).div_ceil(8)).map(byte));
     parts
 }
 
@@ -72,8 +76,9 @@ fn bits_beside_it_do_not_matter() {
         for i in 0..COUNT {
             let own = i * width..(i + 1) * width;
             let mut turned = parts.clone();
-            for j in (0..8 * turned.values.len()).filter(|j| !own.contains(j)) {
-                turned.values[j / 8] ^= match edition {
+            let packed = &mut turned.values[parts.packed_at()..];
+            for j in (0..8 * packed.len()).filter(|j| !own.contains(j)) {
+                packed[j / 8] ^= match edition {
                     Edition::Lucene => 1 << (j % 8),
                     _ => 128 >> (j % 8),
                 };

@@ -7,17 +7,17 @@ use std::ops::Range;
 
 use common::damage::Tally;
 use common::parts::{self, Parts};
-use common::{same, Random};
+use common::{same, Random, EDITIONS};
 use signalfern::{Edition, Refusal, MAX_ID};
 
 /// Ids 0 and 1 of block 0, and 4096 of block 2: sparse and dense, a missing block, two ranks (p 15),
-/// four jump entries, and spare bits. Stored numbers have three bits in edition 1, two in edition 2 (3
-/// times 4098 is 2 short of bytes, and 2 times 4098 is 4 short).
+/// four jump entries, and spare bits. Stored numbers have three bits in editions 1 and 3, two in edition 2
+/// (3 times 4098 is 2 short of bytes, and 2 times 4098 is 4 short).
 fn column(edition: Edition) -> (Vec<u8>, Vec<u32>) {
     let mut random = Random::new(30);
     let mut ids = vec![0, 1];
     ids.extend((0..4096).map(|i| 131_072 + 16 * i + (i & 7)));
-    let greatest = if edition == Edition::Plain { 7 } else { 3 };
+    let greatest = if edition == Edition::Lucene { 3 } else { 7 };
     let mut values: Vec<i64> = (ids.iter())
         .map(|_| random.below(greatest) as i64 - 3)
         .collect();
@@ -47,8 +47,10 @@ fn field(name: &'static str, from: usize, len: usize, step: usize, fixed: bool) 
     }
 }
 
-/// The fields in order; the id section starts after the header's `h` bytes, the values at `v`.
-fn fields(h: usize, v: usize, end: usize) -> [Field; 10] {
+/// The fields in order; the id section starts after the header's `h` bytes, the values at `v` with the
+/// `directory` bytes of edition 3.
+fn fields(h: usize, v: usize, directory: usize, end: usize) -> [Field; 11] {
+    let packed = v + directory;
     [
         field("header", 0, h, 1, false),
         // Number and count of each block: another count has other data, and the jump entries know
@@ -61,7 +63,9 @@ fn fields(h: usize, v: usize, end: usize) -> [Field; 10] {
         field("words", h + 16, 8192, 5, false),
         field("end block", h + 8208, 6, 1, true),
         field("jump entries", h + 8214, 32, 1, true),
-        field("values", v, end - v - 1, 3, false),
+        // The values say what their run's numbers are.
+        field("directory", v, directory, 1, true),
+        field("values", packed, end - packed - 1, 3, false),
         field("last value and spare bits", end - 1, 1, 1, false),
     ]
 }
@@ -76,6 +80,11 @@ fn each_field_of_edition_2() {
     fields_of(Edition::Lucene, 1025, 0b1111_0000);
 }
 
+#[test]
+fn each_field_of_edition_3() {
+    fields_of(Edition::Runs, 25 + 1537, 0b11);
+}
+
 /// The bytes of its value section, and the spare bits of the last of them.
 fn fields_of(edition: Edition, value_bytes: usize, spare: u8) {
     let (column, ids) = column(edition);
@@ -86,7 +95,7 @@ fn fields_of(edition: Edition, value_bytes: usize, spare: u8) {
     assert_eq!(parts.numbers[parts::JUMPS], 4);
     let asked = [0, 1, 2, 65_536, ids[2], ids[2000], ids[4097], MAX_ID + 1];
     let mut tally = Tally::default();
-    for field in fields(h, v, column.len()) {
+    for field in fields(h, v, parts.packed_at(), column.len()) {
         for at in field.bytes.step_by(field.step) {
             for change in CHANGES {
                 let mut bytes = column.clone();
@@ -111,7 +120,11 @@ fn fields_of(edition: Edition, value_bytes: usize, spare: u8) {
 
 #[test]
 fn cut_or_lengthened() {
-    let (mut column, ids) = column(Edition::Lucene);
+    EDITIONS.into_iter().for_each(cut_or_lengthened_of);
+}
+
+fn cut_or_lengthened_of(edition: Edition) {
+    let (mut column, ids) = column(edition);
     let asked = [1, ids[2000]];
     let mut tally = Tally::default();
     // Within the header a number is cut off; after it the bytes are too few.

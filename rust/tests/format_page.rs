@@ -3,7 +3,7 @@
 mod common;
 
 use common::pages::look_up_exactly;
-use common::{same, EDITIONS};
+use common::{same, PACKED};
 use signalfern::{Checked, Cursor, Edition, Layer, Refusal};
 
 const PAGE: &str = include_str!("../../docs/FORMAT.md");
@@ -33,11 +33,12 @@ fn taken_apart() -> Vec<Vec<u8>> {
 
 #[test]
 fn columns_taken_apart() {
-    let lists: [(&[u32], &[i64], Edition, u32); 4] = [
+    let lists: [(&[u32], &[i64], Edition, u32); 5] = [
         (&[0, 2, 7], &[150, 140, 135], Edition::Plain, 9),
         (&[65_536], &[-1], Edition::Plain, 0),
         (&[], &[], Edition::Plain, 9),
         (&[0, 2, 7], &[-2, 5, 1], Edition::Lucene, 9),
+        (&[0, 2, 7], &[-2, 5, 1], Edition::Runs, 9),
     ];
     let columns = taken_apart();
     assert_eq!(columns.len(), lists.len());
@@ -58,7 +59,7 @@ fn stored_numbers_in_both_editions() {
         (&[0, 7, 3], [[0x1D, 0x80], [0x70, 0x03]]),
     ] {
         let ids: Vec<u32> = (0..values.len() as u32).collect();
-        for (edition, section) in EDITIONS.into_iter().zip(sections) {
+        for (edition, section) in PACKED.into_iter().zip(sections) {
             let column = same::write_exactly(&ids, values, edition, 9);
             assert!(column.ends_with(&section), "{column:02X?}");
         }
@@ -164,6 +165,47 @@ fn the_next_candidate() {
 }
 
 /// What the page says of a correction on top.
+/// The sizes that the page tells of edition 3, and its directory of one run.
+#[test]
+fn runs_with_a_summary() {
+    assert!(PAGE.contains(
+        "Of 40000 values, all from 0 to 7 but for one of 1000000 at ordinal 39000, edition 1 makes 40000 times \
+         20 bits, 100000 bytes. Edition 3 makes 75 bytes of directory, two runs of 16384 times 3 bits and one of \
+         7232 times 20: 75 + 6144 + 6144 + 18080 are 30443."
+    ));
+    let ids: Vec<u32> = (0..40_000).collect();
+    let mut values: Vec<i64> = ids.iter().map(|id| i64::from(id % 8)).collect();
+    values[39_000] = 1_000_000;
+    for (edition, bytes) in [(Edition::Plain, 100_000), (Edition::Runs, 30_443)] {
+        let column = same::write_exactly(&ids, &values, edition, 9);
+        assert_eq!(same::open(&column).unwrap().value_bytes(), bytes);
+    }
+}
+
+#[test]
+fn the_first_value_in_a_range() {
+    let mut column = taken_apart().swap_remove(4);
+    assert!(PAGE.contains(
+        "In the last column above, 0 to 5 finds ordinal 1, whose value is 5; -1 to 0 finds none, and so does 5 to \
+         0. With byte 33, the greatest value, turned from `05` to `04`, 5 to 9 finds none as well"
+    ));
+    for (low, high, found) in [
+        (0, 5, Some(1)),
+        (-1, 0, None),
+        (5, 0, None),
+        (5, 9, Some(1)),
+    ] {
+        assert_eq!(same::first_between(&column, low, high), Ok(found));
+    }
+    assert_eq!(column[33], 5);
+    column[33] = 4;
+    assert_eq!(same::first_between(&column, 5, 9), Ok(None));
+    assert_eq!(same::check(&column), Err(Refusal::Damaged));
+    assert!(PAGE.contains("the bytes `02 80 00` are EDITION"));
+    let other = same::first_between(&[0x02, 0x80, 0x00], 0, 9);
+    assert_eq!(other, Err(Refusal::Edition));
+}
+
 #[test]
 fn a_correction_on_top() {
     let machine = taken_apart().swap_remove(0);

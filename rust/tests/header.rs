@@ -107,7 +107,8 @@ fn the_first_bad_number_decides() {
         (&[0x01, 0x03, 0x06, 0x80], Refusal::Short { bytes: 4 }),
         (&[0x81, 0x00, 0x80], Refusal::Number { place: 1 }),
         (&[0x02, 0x80, 0x00], Refusal::Number { place: 2 }),
-        (&[0x03, 0x80, 0x00], Refusal::Edition),
+        (&[0x03, 0x80, 0x00], Refusal::Number { place: 2 }),
+        (&[0x04, 0x80, 0x00], Refusal::Edition),
         (&[0x00, 0x80], Refusal::Edition),
     ] {
         refused(bytes, refusal);
@@ -121,7 +122,7 @@ fn nothing_before_the_place_decides() {
     let mut random = Random::new(60);
     let mut tally = Tally::default();
     for _ in 0..40_000 {
-        let mut bytes = vec![random.pick(&[1, 2])];
+        let mut bytes = vec![random.pick(&[1, 2, 3])];
         for _ in 0..random.below(40) {
             let any = random.next() as u8;
             bytes.push(random.pick(&[0, 1, 2, 0x80, 0x80, 0x81, 0xFF, 0xFF, any]));

@@ -209,7 +209,7 @@ fn the_shared_library_shows_what_the_header_declares() {
         .filter_map(|before| before.rsplit([' ', '*']).next())
         .filter(|name| name.starts_with("signalfern_"))
         .collect();
-    assert_eq!(declared.len(), 22, "{declared:?}");
+    assert_eq!(declared.len(), 24, "{declared:?}");
 
     let symbols = |words: &[&str], file: &str| {
         let output = Command::new("nm")

@@ -75,6 +75,16 @@ int main(void)
     PROMISE(judged.kind == 0 && judged.number == 3);
     PROMISE(strcmp(signalfern_reason_name(0), "NONE") == 0 && strcmp(signalfern_reason_name(9), "UNKNOWN") == 0);
     PROMISE(strlen(signalfern_reason_text(0)) > 0 && strlen(signalfern_reason_text(UINT64_MAX)) > 0);
+
+    reply = signalfern_write(ids, 3, values, 3, SIGNALFERN_RUNS, SIGNALFERN_USUAL_POWER, column, sizeof column);
+    PROMISE(reply.refusal == 0);
+    len = reply.number;
+    opened = signalfern_open(column, len);
+    PROMISE(opened.refusal == 0 && opened.edition == SIGNALFERN_RUNS);
+    signalfern_between between = signalfern_first_between(column, len, 0, 139);
+    PROMISE(between.kind == SIGNALFERN_FOUND && between.ordinal == 2);
+    PROMISE(signalfern_first_between_in(opened, column, len, 141, 999).kind == SIGNALFERN_NONE);
+
     reply = signalfern_set_write(ids, 3, column, sizeof column);
     PROMISE(reply.refusal == 0);
     len = reply.number;

@@ -19,7 +19,7 @@ fn chosen(ids: &[u32]) -> impl Iterator<Item = usize> + '_ {
 }
 
 /// Writes the list in each edition and tries each call on its column; gives the columns.
-fn there_and_back(ids: &[u32], values: &[i64], power: u32) -> [Vec<u8>; 2] {
+fn there_and_back(ids: &[u32], values: &[i64], power: u32) -> [Vec<u8>; 3] {
     EDITIONS.map(|edition| written(ids, values, edition, power))
 }
 
@@ -153,12 +153,11 @@ fn every_width_with_a_divisor() {
                 .map(|s| low.wrapping_add_unsigned(s.wrapping_mul(step)))
                 .collect();
             let columns = there_and_back(&ids, &values, 0);
-            // Document 01, "Header": w is number 5 and g number 7, from 0. Edition 2 has the next width
-            // of its list.
+            // Document 01, "Header": g is number 7, from 0. Edition 2 has the next width of its list.
             let next = LUCENE_WIDTHS.into_iter().find(|&it| it >= width);
-            for (column, width) in columns.iter().zip([width, next.unwrap()]) {
-                let numbers = common::parts::Parts::of(column).numbers;
-                assert_eq!((numbers[5], numbers[7]), (u64::from(width), step));
+            for (column, width) in columns.iter().zip([width, next.unwrap(), width]) {
+                let parts = common::parts::Parts::of(column);
+                assert_eq!((parts.width(), parts.numbers[7]), (width as usize, step));
             }
         }
     }

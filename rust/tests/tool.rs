@@ -187,10 +187,13 @@ fn the_demo() {
                      70000 90 by correction ordinal 1 words machine 0 correction 0\n\
                      70001 190 by machine ordinal 4 words machine 6 correction 0\n";
     assert!(shown.out.contains(corrected), "{}", shown.out);
+    let found = "runs.column 185 1000\n70001 190 ordinal 4\n";
+    assert!(shown.out.contains(found), "{}", shown.out);
     let left = [
         "again.txt",
         "correction.column",
         "correction.txt",
+        "runs.column",
         "scores.column",
         "scores.txt",
     ];

@@ -131,12 +131,12 @@ fn what_is_wrong_with_one() {
         ],
     );
     let mut other = sound;
-    other.numbers[parts::EDITION] = 3;
+    other.numbers[parts::EDITION] = 4;
     check(
         other,
         &[
             "refusal 9, EDITION",
-            "a column starts with 01 or 02",
+            "a column starts with 01, 02 or 03",
             "the right file",
         ],
     );

@@ -6,8 +6,9 @@ use std::process::Command;
 
 use common::tool::{has_program, run, Folder};
 
-const COMMANDS: [&str; 11] = [
-    "write", "check", "read", "look-up", "next", "audit", "show", "judge", "set", "demo", "help",
+const COMMANDS: [&str; 12] = [
+    "write", "check", "read", "look-up", "next", "find", "audit", "show", "judge", "set", "demo",
+    "help",
 ];
 
 #[test]
@@ -40,8 +41,11 @@ fn usage() {
     run(&["frobnicate"]).expect(2, &["no command `frobnicate`\n"]);
     run(&["lookup", "a", "1"]).expect(2, &["did you mean `look-up`?"]);
     run(&["write", "a", "-o", "b", "--powr", "9"]).expect(2, &["did you mean `--power`?"]);
-    for edition in ["0", "3", "4294967297", "two", ""] {
-        let words = [&format!("`{edition}` is no edition: 1 or 2")[..], "--help"];
+    for edition in ["0", "4", "4294967297", "two", ""] {
+        let words = [
+            &format!("`{edition}` is no edition: 1, 2 or 3")[..],
+            "--help",
+        ];
         run(&["write", "a", "-o", "b", "--edition", edition]).expect(2, &words);
     }
     run(&["check"]).expect(2, &["no column is named"]);
@@ -57,6 +61,13 @@ fn usage() {
     run(&["next", "a", "7x"]).expect(2, &["`7x` is no id"]);
     run(&["next", "a", "7", "8"]).expect(2, &["`8` is one word too many"]);
     run(&["next", "a", "7", "--count", "0"]).expect(2, &["`0` is no count of ids"]);
+    run(&["find", "a"]).expect(2, &["two values are to be named: LOW and HIGH"]);
+    run(&["find", "a", "-5"]).expect(2, &["two values are to be named: LOW and HIGH"]);
+    run(&["find", "a", "1", "2x"]).expect(2, &["`2x` is no value: a whole number from -922"]);
+    run(&["find", "a", "-5x", "2"]).expect(2, &["`-5x` is no value"]);
+    run(&["find", "a", "1", "9223372036854775808"]).expect(2, &["is no value"]);
+    run(&["find", "a", "1", "2", "-3"]).expect(2, &["`-3` is one word too many"]);
+    run(&["find", "a", "-x", "2"]).expect(2, &["no option `-x`"]);
     run(&["check", "no/such/file"]).expect(2, &["cannot read no/such/file"]);
     run(&["read", "a", "--limit", "-1"]).expect(2, &["`-1` is no count of pairs"]);
     run(&["read", "a", "--from", "2147352576"]).expect(2, &["`2147352576` is no id"]);
@@ -130,7 +141,7 @@ fn completions_of_bash() {
     assert!(complete("signalfern lo", 1).starts_with("look-up\n"));
     assert!(complete("signalfern write --po", 2).starts_with("--power\n"));
     assert!(complete("signalfern write -p 1", 3).starts_with("10 11 12 13 14 15\n"));
-    assert!(complete("signalfern write --edition ''", 3).starts_with("1 2\n"));
+    assert!(complete("signalfern write --edition ''", 3).starts_with("1 2 3\n"));
     assert!(complete("signalfern check a", 2).starts_with("a.column\n"));
     assert!(complete("signalfern help c", 2).starts_with("check\n"));
     assert!(complete("signalfern read a --limit ''", 4).starts_with('\n'));

@@ -36,7 +36,8 @@ fn numbers_of(r: Reply) -> Outcome {
     }
 }
 
-fn written(ids: &[u32], signed: &[i64], how: How, out: &mut [u8], room: u64) -> Outcome {
+// The library's writer, with that much room.
+pub fn written(ids: &[u32], signed: &[i64], how: How, out: &mut [u8], room: u64) -> Outcome {
     let end = room as usize;
     if end > out.len() {
         return outcome(UNTRIED, 0);
@@ -101,7 +102,7 @@ pub fn both(
 }
 
 // With no room, one byte short, just room and some to spare. Answers with the column's bytes, or 0 for a disagreement.
-fn at_rooms(ids: &[u32], values: &[u64], signed: &[i64], how: How) -> u64 {
+pub fn at_rooms(ids: &[u32], values: &[u64], signed: &[i64], how: How) -> u64 {
     let any = b"";
     let n = both(ids, values, signed, how, 0, any).with;
     let less = std::num::wrapping_sub_u64(n, 1);
@@ -139,6 +140,6 @@ pub fn list(runs: Runs, v: Values, how: How) -> u64 {
     let mut values = [0u64; 80000];
     let mut signed = [0i64; 80000];
     let n = lists::fill_ids(&mut ids, runs);
-    lists::fill_values(&mut values, &mut signed, n, v);
+    lists::fill_values(&mut values, &mut signed, 0, n, v);
     first_pairs(n, &ids, &values, &signed, how)
 }

@@ -1,8 +1,10 @@
-// The documents' cases for the writer, and lists beside them, each written by the library and by the second writer; and numbers, fetched
-// by both.
+// The documents' cases for the writer, and lists beside them, each written by the library and by the second writer; numbers, fetched by both;
+// and columns of edition 3, sound and damaged, in the check, the look-up and the question.
 mod both;
+mod directory;
 mod document;
 mod fetching;
+mod runs;
 mod say;
 
 use lists::Run;
@@ -163,5 +165,7 @@ fn main() {
     let t = t.and(more_blocks());
     let t = t.and(widths());
     let t = t.and(borders());
+    let t = t.and(runs::lists_of_runs());
+    let t = t.and(directory::lines());
     say::total(t.and(fetching::numbers()));
 }

@@ -31,6 +31,11 @@ fn text(s: &[u8]) {
     io::write_all(1, s);
 }
 
+pub fn line(s: &[u8]) {
+    text(s);
+    text(b"\n");
+}
+
 // A case with a line of its own.
 pub fn case(name: &[u8], right: bool) -> Tally {
     text(name);

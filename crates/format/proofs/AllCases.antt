@@ -1,7 +1,6 @@
 -- Every computed case about the definitions, in one statement: document 01's starred table, both sides of each refusal's line, and of
--- document 02 the next candidate ([1]), the divisor ([2]), the places ([4]), the bytes of a fetch ([5]), the probes ([8]) and a correction
--- on top ([10]).
--- document 02 the divisor ([2]), the places ([4]), the bytes of a fetch ([5]), edition 2 ([6]) and the probes ([8]).
+-- document 02 the next candidate ([1]), the divisor ([2]), the places ([4]), the bytes of a fetch ([5]), edition 2 ([6]), the probes ([8]), a
+-- correction on top ([10]) and edition 3 ([11]).
 -- (It is the first of these files to be checked, so that a slip in a definition shows as the case that it breaks.) Assumes nothing.
 use Rattle.format.proofs.Starred.{Starred, starred}
 use Rattle.format.proofs.Pins.{WriterCases, writer-cases, DivisorCases, divisor-cases, HeaderCases, header-cases}
@@ -15,6 +14,7 @@ use Rattle.format.proofs.PinsTaken.{TakenCases, taken-cases}
 use Rattle.format.proofs.PinsPage.{PageCases, page-cases}
 use Rattle.format.proofs.PinsLucene.{LowCases, low-cases, LuceneCases, lucene-cases, ToldCases, told-cases}
 use Rattle.format.proofs.PinsJudge.{JudgeCases, judge-cases, DenseJudgeCases, dense-judge-cases}
+use Rattle.format.proofs.PinsRuns.{RunCases, run-cases, DirectoryCases, directory-cases, BetweenCases, between-cases}
 
 pub record AllCases : Type 0 where
   pub starred-table : Starred
@@ -43,6 +43,9 @@ pub record AllCases : Type 0 where
   pub told-table : ToldCases
   pub judge-table : JudgeCases
   pub dense-judge-table : DenseJudgeCases
+  pub run-table : RunCases
+  pub directory-table : DirectoryCases
+  pub between-table : BetweenCases
 
 pub all-cases : AllCases
 all-cases =
@@ -73,4 +76,7 @@ all-cases =
       told-table = told-cases;
       judge-table = judge-cases;
       dense-judge-table = dense-judge-cases;
+      run-table = run-cases;
+      directory-table = directory-cases;
+      between-table = between-cases;
     }

@@ -2,7 +2,7 @@
 -- Assumes nothing.
 use Rattle.format.specs.Kit.{bind, onesIn}
 use Rattle.format.specs.Refusals.{andThen, need, given, needNone}
-use Rattle.format.specs.Bytes.{bytesOf, countFrom, digits, same, fromDigits, lowAt, highAt}
+use Rattle.format.specs.Bytes.{bytesOf, countFrom, digits, same, fromDigits, lowAt, highAt, twos, untwos}
 use Rattle.format.specs.HeaderNumbers.{groups, number, above, readGroups, readNumber, gotAt, numberAt, numbersAt}
 use Rattle.format.specs.Bits.{bitOf, gather, tabulate, packed, bitAt, fetched, fetchedBytes}
 use Rattle.format.specs.BitsLow.{bitLow, gatherLow, packedLow, bitLowAt, fetchedLow}
@@ -10,8 +10,9 @@ use Rattle.format.specs.Ids.{push, runs, kindOf, byKind, rankBytes, data
 use Rattle.format.specs.Ids.{jumpsFrom, notTwo, jumps, entryBytes, blocks, idSection}
 use Rattle.format.specs.IdsRead.{shorts, placesIn, readRuns, idsOf}
 use Rattle.format.specs.Values.{leastOf, mostOf, smallest, greatest, spread, gcdIn, gcd, gcdFrom, differences, divisor}
-use Rattle.format.specs.Values.{bitsIn, bitLength, width, stored, valueAt}
+use Rattle.format.specs.Values.{bitsIn, bitLength, widthWith, width, storedWith, stored, valueAt}
 use Rattle.format.specs.Codec.{scaled, signed64}
+use Rattle.format.specs.ValueRuns.{runsIn, runsOf, runBytes, summaryOf, summaries, summaryBytes, summaryAt, runSection, inRun, inRuns}
 use Rattle.format.specs.Editions.{numberOf, editions, editionIn, highFirst, luceneWidths, firstEnough, among, lowFirst, codec}
 use Rattle.format.specs.Column.{headOf, headNumbers, column}
 use Rattle.format.specs.Writer.{notAbove, orderFault, rangeFault, writeAs, write, writeReply}
@@ -21,6 +22,7 @@ use Rattle.format.specs.LookUp.{scan, halveIn, halve, inSparse, onesFrom
 use Rattle.format.specs.LookUp.{steps, entered, probesFrom, stepProbes, lookUp, openedProbes, lookUpProbes, lookUpIn}
 use Rattle.format.specs.Walk.{indexOf, seenOr, walkFrom, walk, listed, listedPlaces, probes}
 use Rattle.format.specs.Pairs.{ascFrom}
+use Rattle.format.specs.FirstBetween.{scanFrom, runsFrom, betweenSteps, firstBetween, firstBetweenIn, firstIn}
 use Rattle.format.specs.Next.{decides, inTurn, nextSteps, next, nextIn, lastAfter, firstFrom, listNext, inSequence}
 use Rattle.format.specs.SetBytes.{setKind, begins, past, missing, setList, setData, setBlockAs, setBlock, setBytes, setWrite}
 use Rattle.format.specs.SetCalls.{listLengthOk, setDataBytes, setDataFits, setDataOk, setPlaces, dataFrom, lengthFrom, kindFrom, blockFrom, setRun}
@@ -42,5 +44,7 @@ unfolding bind onesIn andThen need given needNone bytesOf countFrom digits same 
     setData setBlockAs setBlock setBytes setWrite listLengthOk setDataBytes setDataFits setDataOk setPlaces dataFrom lengthFrom kindFrom blockFrom
     setRun blocksFrom setIds setCheck listed memberIn setFind placeKind placeOrdinal placeValue placeWords page pageWords pageReply pageAfter bitLow
     gatherLow packedLow bitLowAt fetchedLow luceneWidths firstEnough among lowFirst fixedAt numbersIn endIn entryIn ranksFrom placesOk onesOk ranksOk
-    firstFailed testsAt unlessFault judgeFrom jumpsAt jumpsIn judgeEntries judgeRest judge judgeSection write
+    firstFailed testsAt unlessFault judgeFrom jumpsAt jumpsIn judgeEntries judgeRest judge judgeSection twos untwos widthWith storedWith runsIn runsOf
+    runBytes summaryOf summaries summaryBytes summaryAt runSection inRun inRuns scanFrom runsFrom betweenSteps firstBetween firstBetweenIn firstIn
+    write
 computing = Unit {0}

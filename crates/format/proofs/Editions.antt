@@ -1,15 +1,16 @@
--- The editions: their numbers, edition 1 in document 01's words, edition 2 in document 02's, and that the codec of each is lawful.
+-- The editions: their numbers, edition 1 in document 01's words, editions 2 and 3 in document 02's, and that the codec of each is lawful.
 -- Assumes nothing.
-use Rattle.format.specs.Kit.{_≡_, refl, false, _&&_, List, [], _∷_, some, ℕ, _/_, _^_, _<_, div-le-self, lt-of-le-of-lt, arith, leb, eqb, lit<, ℤ}
-use Rattle.format.specs.Kit.{le-leb, leb-true, eqb-true}
+use Rattle.format.specs.Kit.{_≡_, refl, sym, ap, _∙_, false, _&&_, List, [], _∷_, some, Option·some-injective, ℕ, _/_, _%_, _^_, _<_, div-le-self}
+use Rattle.format.specs.Kit.{lt-of-le-of-lt, arith, leb, eqb, lit<, ℤ, drop, le-leb, leb-true, eqb-true, ne-eqb}
 use Rattle.format.specs.Limits.{maxWidth}
 use Rattle.format.specs.HeaderNumbers.{zigzag, unzigzag}
 use Rattle.format.specs.Bits.{packedBytes, packed, fetched, bitAt, bitOf}
 use Rattle.format.specs.BitsLow.{packedLow, fetchedLow, bitLowAt, bitLow}
-use Rattle.format.specs.Values.{smallest, spread, divisor, bitLength, width, stored, valueAt}
+use Rattle.format.specs.Values.{smallest, spread, divisor, bitLength, width, widthWith, stored, valueAt}
 use Rattle.format.specs.Pairs.{Each, Fits}
 use Rattle.format.specs.Codec.{Fields, signed64, scaled}
-use Rattle.format.specs.Editions.{Edition, plain, lucene, numberOf, editions, editionIn, Knows, highFirst, luceneWidths, lowFirst, codec}
+use Rattle.format.specs.ValueRuns.{runLength, directoryLength, runsOf, summaryAt, runSection, inRun, inRuns}
+use Rattle.format.specs.Editions.{Edition, plain, lucene, runs, numberOf, editions, editionIn, Knows, highFirst, luceneWidths, lowFirst, codec}
 use Rattle.format.proofs.Orders.{packedBy, fetchedBy}
 use Rattle.format.proofs.Bits.{highOrder, high-orderly}
 use Rattle.format.proofs.BitsLow.{lowOrder, low-orderly}
@@ -18,6 +19,7 @@ use Rattle.format.proofs.Values.{bit-length, bit-length-le}
 use Rattle.format.proofs.Bounds.{spread-lt}
 use Rattle.format.proofs.Lawful.{Lawful, LawfulReader}
 use Rattle.format.proofs.Scaled.{Sound, scaled-lawful, scaled-wide}
+use Rattle.format.proofs.InRuns.{runs-lawful}
 use Rattle.format.proofs.Cases.{true-or}
 
 -- ---- numbers
@@ -26,12 +28,14 @@ pub number-small : (ed : Edition) → numberOf ed < 2 ^ 64
 unfolding numberOf
 number-small plain = lit< tt
 number-small lucene = lit< tt
+number-small runs = lit< tt
 
 -- all editions are known
 pub knows-all : (ed : Edition) → Knows editions ed
 unfolding numberOf editions editionIn
 knows-all plain = refl
 knows-all lucene = refl
+knows-all runs = refl
 
 -- what is found by its number has it
 pub found-number : (known : List Edition) (k : ℕ) (ed : Edition) → editionIn known k ≡ some ed → k ≡ numberOf ed
@@ -42,15 +46,19 @@ found-number (x ∷ known) k ed e =
     (λ f. let same : x ≡ ed = cc (rw f at e) in let own : k ≡ numberOf x = eqb-true k (numberOf x) f in cc)
     (λ f. found-number known k ed (rw f at e))
 
+-- no two editions have the same number
+pub one-number : (ed ed′ : Edition) → numberOf ed ≡ numberOf ed′ → ed ≡ ed′
+one-number ed ed′ e = Option·some-injective ed ed′ (sym (knows-all ed) ∙ ap (editionIn editions) e ∙ knows-all ed′)
+
 -- ---- edition 1
 
 -- its codec in document 01's words: w, smallest, g and the packed numbers of the list; the header rules; step 7
 pub plain-fields : (vs : List ℤ) → codec plain .fields vs ≡ record { width = width vs; smallest = zigzag (smallest vs); divisor = divisor vs }
-unfolding codec scaled highFirst width
+unfolding codec scaled highFirst width widthWith
 plain-fields vs = refl
 
 pub plain-section : (vs : List ℤ) → codec plain .section vs ≡ packed (width vs) (stored vs)
-unfolding codec scaled highFirst width
+unfolding codec scaled highFirst width widthWith
 plain-section vs = refl
 
 pub plain-rules : (n : ℕ) (f : Fields) (v : ℕ) → codec plain .fieldsOk n f v
@@ -104,12 +112,34 @@ low-first-sound =
       fetches = λ s w i. refl;
     }
 
+-- ---- edition 3
+
+-- its codec in document 02's words
+pub runs-fields : (vs : List ℤ) → codec runs .fields vs ≡ record { width = 0; smallest = 0; divisor = divisor vs }
+unfolding codec inRuns
+runs-fields vs = refl
+
+pub runs-section : (vs : List ℤ) → codec runs .section vs ≡ runSection (divisor vs) (runsOf vs)
+unfolding codec inRuns
+runs-section vs = refl
+
+pub runs-rules : (n : ℕ) (f : Fields) (v : ℕ) → codec runs .fieldsOk n f v
+    ≡ (eqb (f .width) 0 && eqb (f .smallest) 0 && leb 1 (f .divisor) && leb (directoryLength n) v)
+unfolding codec inRuns
+runs-rules n f v = refl
+
+pub runs-value : (n : ℕ) (f : Fields) (s : List ℕ) (i : ℕ) → codec runs .value n f s i
+    ≡ inRun (f .divisor) (drop (directoryLength n) s) (summaryAt s (i / runLength)) (i % runLength)
+unfolding codec inRuns
+runs-value n f s i = refl
+
 -- ---- every codec is lawful, and so is every reader
 
 pub lawful : (ed : Edition) → Lawful (codec ed)
 unfolding codec
 lawful plain = scaled-lawful highFirst high-first-sound
 lawful lucene = scaled-lawful lowFirst low-first-sound
+lawful runs = runs-lawful
 
 pub lawful-reader : (known : List Edition) → LawfulReader known
 lawful-reader known ed k = lawful ed
@@ -119,3 +149,4 @@ pub wide : (ed : Edition) (n : ℕ) (f : Fields) (v : ℕ) → maxWidth < f .wid
 unfolding codec
 wide plain n f v h = scaled-wide highFirst high-first-sound n f v h
 wide lucene n f v h = scaled-wide lowFirst low-first-sound n f v h
+wide runs n f v h = runs-rules n f v ∙ rw (ne-eqb (f .width) 0 (λ e. omega arith))

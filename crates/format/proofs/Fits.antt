@@ -1,11 +1,12 @@
 -- Signed 64-bit numbers: `Fits` by the size, their header numbers, and that the smallest and the greatest value are such numbers.
 -- Assumes nothing.
-use Rattle.format.specs.Kit.{_≡_, List, [], _∷_, ℕ, _+_, _*_, _/_, _%_, _^_, _<_, arith, lit<, ℤ, pos, negsuc, mag, eq-eqb, ne-eqb, ltb-true}
-use Rattle.format.specs.Kit.{lt-ltb}
+use Rattle.format.specs.Kit.{_≡_, List, [], _∷_, ℕ, suc, _+_, _-_, _*_, _/_, _%_, _^_, _<_, _≤_, arith, lit<, ℤ, pos, negsuc, mag, eq-eqb, ne-eqb}
+use Rattle.format.specs.Kit.{ltb-true, lt-ltb, le-ltb}
+use Rattle.format.specs.Bytes.{twos, untwos}
 use Rattle.format.specs.HeaderNumbers.{zigzag, unzigzag}
 use Rattle.format.specs.Values.{smallest, greatest}
 use Rattle.format.specs.Pairs.{Each, Fits}
-use Rattle.format.proofs.Cases.{equal-or}
+use Rattle.format.proofs.Cases.{below-or, equal-or}
 use Rattle.format.proofs.Values.{least-has, most-has}
 
 pub fits-size : (v : ℤ) → Fits v → mag v < 2 ^ 63
@@ -45,6 +46,41 @@ pub unzigzag-fits : (x : ℕ) → x < 2 ^ 64 → Fits (unzigzag x)
 unzigzag-fits x h =
     size-fits (unzigzag x)
     (equal-or (x % 2) 0 (λ e. rw (unzigzag-even x e) (omega arith)) (λ e. rw (unzigzag-odd x e) (omega arith)))
+
+-- ---- two's complement
+
+pub untwos-low : (x : ℕ) → x < 2 ^ 63 → untwos x ≡ pos x
+unfolding untwos
+untwos-low x h = rw (lt-ltb x (2 ^ 63) h)
+
+pub untwos-high : (x : ℕ) → 2 ^ 63 ≤ x → untwos x ≡ negsuc (2 ^ 64 - suc x)
+unfolding untwos
+untwos-high x h = rw (le-ltb x (2 ^ 63) h)
+
+pub twos-lt : (v : ℤ) → Fits v → twos v < 2 ^ 64
+unfolding twos
+twos-lt (pos n) h = omega (arith, fits-size (pos n) h)
+twos-lt (negsuc n) h = omega arith
+
+pub untwos-twos : (v : ℤ) → Fits v → untwos (twos v) ≡ v
+unfolding twos
+untwos-twos (pos n) h = untwos-low n (fits-size (pos n) h)
+untwos-twos (negsuc n) h =
+    let small : n < 2 ^ 63 = fits-size (negsuc n) h in
+    let back : 2 ^ 64 - suc (2 ^ 64 - suc n) ≡ n = omega arith in
+    rw (untwos-high (2 ^ 64 - suc n) (omega arith), back)
+
+pub twos-untwos : (x : ℕ) → x < 2 ^ 64 → twos (untwos x) ≡ x
+unfolding twos
+twos-untwos x h =
+    below-or x (2 ^ 63)
+    (λ l. rw (untwos-low x l))
+    (λ l. rw (untwos-high x l) (omega arith))
+
+pub untwos-fits : (x : ℕ) → x < 2 ^ 64 → Fits (untwos x)
+untwos-fits x h =
+    size-fits (untwos x)
+    (below-or x (2 ^ 63) (λ l. rw (untwos-low x l) l) (λ l. rw (untwos-high x l) (omega arith)))
 
 -- ---- of a list
 

@@ -15,6 +15,7 @@ pub mod PinsTaken
 pub mod PinsPage
 pub mod PinsLucene
 pub mod PinsJudge
+pub mod PinsRuns
 pub mod Demands
 pub mod Meaning
 pub mod MeaningValues
@@ -42,10 +43,13 @@ pub mod Values
 pub mod Fits
 pub mod Jumps
 pub mod Bounds
+pub mod Pieces
 pub mod Sizes
 pub mod Standing
 pub mod Lawful
 pub mod Scaled
+pub mod ValueRuns
+pub mod InRuns
 pub mod Editions
 pub mod Open
 pub mod RoundTrip
@@ -71,3 +75,4 @@ pub mod Paged
 pub mod Retired
 pub mod Layered
 pub mod Alone
+pub mod FirstBetween

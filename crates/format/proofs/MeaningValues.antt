@@ -3,7 +3,7 @@
 use Rattle.format.specs.Kit.{_≡_, refl, sym, ap, ap₂, _∙_, subst, List, [], _∷_, map, ℕ, suc, _*_, _/_, _^_, _<_, _≤_, _∣_, dvd-zero, one-dvd}
 use Rattle.format.specs.Kit.{dvd-antisymm, mul-zero, mul-one, mul-div-cancel', zero-div, eq-of-mul-eq-mul-left, arith, T, ℤ, pos, natAbs, _+ℤ_}
 use Rattle.format.specs.Kit.{+ℤ-invr, +ℤ-idr, leZ, length, getD, List·getD-map, eq-eqb, ne-eqb}
-use Rattle.format.specs.Values.{smallest, greatest, over, spread, gcdFrom, differences, divisor, stored, bitsIn, bitLength, width}
+use Rattle.format.specs.Values.{smallest, greatest, over, spread, gcdFrom, differences, divisor, stored, storedWith, bitsIn, bitLength, width, widthWith}
 use Rattle.format.specs.Pairs.{Each}
 use Rattle.format.proofs.Values.{each-map, each-two, smallest-each, smallest-has, most-has, greatest-each, spread-each, over-back}
 use Rattle.format.proofs.Values.{dvd-between, divides-each, gcd-from-smallest, length-stored, bit-length, bit-length-le}
@@ -66,7 +66,7 @@ unfolding divisor
 equal-divisor vs t = rw (eq-eqb (spread vs) 0 (equal-spread vs t))
 
 pub equal-width : (vs : List ℤ) → AllEqual vs → width vs ≡ 0
-unfolding width bitLength bitsIn
+unfolding width widthWith bitLength bitsIn
 equal-width vs t = rw (equal-divisor vs t, equal-spread vs t)
 
 -- otherwise it is the greatest common divisor of the differences (document 02, [2])
@@ -91,7 +91,7 @@ divided-by-differences (v ∷ vs) d k t =
 
 -- they are exactly (v - min) / g, with no remainder
 pub no-remainder : (vs : List ℤ) → map (λ x. divisor vs * x) (stored vs) ≡ map (over (smallest vs)) vs
-unfolding stored
+unfolding stored storedWith
 no-remainder vs = go (smallest vs) (divisor vs) vs (divides-each vs)
   where
     go : (m : ℤ) (g : ℕ) (l : List ℤ) → Each (λ v. g ∣ over m v) l → map (λ x. g * x) (map (λ v. over m v / g) l) ≡ map (over m) l
@@ -113,7 +113,7 @@ stored-apart vs d k t =
 
 -- and 0 is among them
 pub zero-stored : (v : ℤ) (vs : List ℤ) → (i : ℕ) × (i < length (stored (v ∷ vs))) × (getD (stored (v ∷ vs)) i 0 ≡ 0)
-unfolding stored
+unfolding stored storedWith
 zero-stored v vs =
     let m : ℤ = smallest (v ∷ vs) in
     let g : ℕ = divisor (v ∷ vs) in
@@ -129,9 +129,9 @@ zero-stored v vs =
 -- ---- the width: the least w with (max - min) / g < 2 ^ w
 
 pub width-holds : (vs : List ℤ) → spread vs / divisor vs < 2 ^ width vs
-unfolding width
+unfolding width widthWith
 width-holds vs = bit-length (spread vs / divisor vs)
 
 pub width-least : (vs : List ℤ) (w : ℕ) → spread vs / divisor vs < 2 ^ w → width vs ≤ w
-unfolding width
+unfolding width widthWith
 width-least vs w h = bit-length-le (spread vs / divisor vs) w h

@@ -1,17 +1,19 @@
 -- A refusal number that a definition never gives, on any input: chains of tests, none of which refuses with it, and the parts of the calls.
 -- Assumes nothing.
-use Rattle.format.specs.Kit.{_≡_, Bool, true, false, cond, not, List, Option, none, some, ℕ, zero, suc, _/_, arith, eqb, eqb-false}
+use Rattle.format.specs.Kit.{_≡_, Bool, true, false, cond, not, List, Option, none, some, ℕ, zero, suc, _/_, arith, eqb, eqb-false, ℤ, leZ}
 use Rattle.format.specs.Limits.{blockPlaces}
 use Rattle.format.specs.Refusals.{Outcome, done, refused, andThen, need, given, needNone, SHORT, NUMBER, EDITION, HEADER, LENGTH, DAMAGED, BROKEN}
 use Rattle.format.specs.Bytes.{lowAt}
 use Rattle.format.specs.HeaderNumbers.{Got, got, short, bad, gotAt, numberAt, numbersAt}
 use Rattle.format.specs.Ids.{Entry}
 use Rattle.format.specs.Editions.{Edition}
-use Rattle.format.specs.Opening.{Opened, openColumn, idPart}
+use Rattle.format.specs.Opening.{Opened, openColumn, idPart, valuePart, valueOf}
 use Rattle.format.specs.Check.{accepted}
 use Rattle.format.specs.LookUp.{Look, Place, found, absent, inside, nowhere, broken, Rule, answer, fromEntry, steps}
 use Rattle.format.specs.Next.{Candidate, decides, inTurn, nextSteps}
 use Rattle.format.specs.SetCalls.{dataFrom, lengthFrom, kindFrom, blockFrom, blocksFrom, setIds}
+use Rattle.format.specs.ValueRuns.{Summary, runCount, summaryAt}
+use Rattle.format.specs.FirstBetween.{between, skipped, scanFrom, runsFrom, betweenSteps}
 
 -- ---- one number
 
@@ -129,6 +131,26 @@ module _ (k : ℕ) where
     pub of-next : (t : ℕ) → Never k (nextSteps bytes c t)
     unfolding nextSteps
     of-next t = of-turns _ t _ (at-done _)
+
+    -- values in turn
+    module _ (f : ℕ → Option ℤ) (low high : ℤ) where
+      of-scan : (m i : ℕ) (more : Outcome (Option ℕ)) → Never k more → Never k (scanFrom f low high m i more)
+      unfolding scanFrom
+      of-scan zero i more h = h
+      of-scan (suc m) i more h =
+          at-then _ _ (at-given _ _ _ b) (λ v. at-cond (between low high v) _ _ (at-done _) (of-scan m (suc i) more h))
+
+      of-runs : (x : ℕ → Summary) (n m r : ℕ) → Never k (runsFrom f x low high n m r)
+      unfolding runsFrom
+      of-runs x n zero r = at-done _
+      of-runs x n (suc m) r =
+          at-cond (skipped low high (x r)) _ _ (of-runs x n m (suc r)) (of-scan _ _ _ (of-runs x n m (suc r)))
+
+    pub of-between : (low high : ℤ) → Never k (betweenSteps bytes c low high)
+    unfolding betweenSteps
+    of-between low high =
+        at-cond (leZ low high) _ _ (of-runs (valueOf bytes c) low high (summaryAt (valuePart bytes c)) (c .head .count) (runCount (c .head .count)) 0)
+        (at-done _)
 
   -- a set's blocks, and the list that they hold (document 02, [14])
   module _ (s : Other k SHORT) (n : Other k NUMBER) (d : Other k DAMAGED) (bytes : List ℕ) where

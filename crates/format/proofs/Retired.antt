@@ -15,22 +15,18 @@ use Rattle.format.specs.Check.{check, reading}
 use Rattle.format.specs.LookUp.{Look, found, absent, lookUp, lookUpIn}
 use Rattle.format.specs.Page.{placeKind, page}
 use Rattle.format.specs.Next.{next, nextIn}
+use Rattle.format.specs.FirstBetween.{firstBetween, firstBetweenIn}
 use Rattle.format.specs.SetBytes.{setWrite}
 use Rattle.format.specs.SetCalls.{setIds, setCheck, setFind}
 use Rattle.format.specs.Replies.{refusalNumber}
 use Rattle.format.specs.declared.Refusal as Re
-use Rattle.format.proofs.Never.{Never, never, at-done, at-need, at-none, at-then, of-open, of-accepted, of-steps, of-next, of-set}
+use Rattle.format.proofs.Never.{Never, never, at-done, at-need, at-none, at-then, of-open, of-accepted, of-steps, of-next, of-set, of-between}
+use Rattle.format.proofs.Pieces.{split-bytes}
 use Rattle.format.proofs.Section.{length-blockOf, length-blocks}
 use Rattle.format.proofs.Bounds.{rank-le, block-le, end-le}
 use Rattle.format.proofs.RoundTrip.{power16, power-ge, blocks-asc, blocks-fine, blocks-le}
 
 -- ---- no block starts near the line
-
-split-blocks : (p i : ℕ) (gs : List Run) → bytesOf (blockOf p) gs ≡ bytesOf (blockOf p) (take i gs) ++ bytesOf (blockOf p) (drop i gs)
-unfolding bytesOf
-split-blocks p zero gs = refl
-split-blocks p (suc i) [] = refl
-split-blocks p (suc i) (g ∷ gs) = rw (append-assoc, ← split-blocks p i gs)
 
 total-take : (p i : ℕ) (gs : List Run) → totalBytes p (take i gs) ≤ totalBytes p gs
 unfolding totalBytes
@@ -55,7 +51,7 @@ module _ (p : ℕ) (ids : List ℕ) (vs : List ℤ) (ok : Valid p ids vs) where
       → drop (startOf p ids i) (idSection p ids) ≡ bytesOf (blockOf p) (drop i (runs ids)) ++ (endBlock ++ bytesOf entryBytes (jumps p ids))
   unfolding startOf idSection blocks
   starts-there i =
-      rw (split-blocks p i (runs ids), append-assoc)
+      rw (split-bytes (blockOf p) i (runs ids), append-assoc)
       (drop-at (bytesOf (blockOf p) (take i (runs ids))) _ _ refl)
 
   -- there are at most 32766 blocks,
@@ -117,6 +113,15 @@ pub next-in-never-5 : (bytes : List ℕ) (c : Opened) (last t w : ℕ) → nextI
 unfolding nextIn
 next-in-never-5 bytes c last t w =
     never 5 _ w (at-need 5 _ _ _ _ refl (at-need 5 _ _ _ _ refl (at-need 5 _ _ _ _ refl (at-need 5 _ _ _ _ refl (of-next 5 refl bytes c t)))))
+
+pub between-never-5 : (bytes : List ℕ) (a b : ℤ) (w : ℕ) → firstBetween bytes a b ≡ refused 5 w → ⊥
+unfolding firstBetween
+between-never-5 bytes a b w = never 5 _ w (at-then 5 _ _ (open-not-5 _ bytes w) (λ c. of-between 5 refl bytes c a b))
+
+pub between-in-never-5 : (bytes : List ℕ) (c : Opened) (a b : ℤ) (w : ℕ) → firstBetweenIn bytes c a b ≡ refused 5 w → ⊥
+unfolding firstBetweenIn
+between-in-never-5 bytes c a b w =
+    never 5 _ w (at-need 5 _ _ _ _ refl (at-need 5 _ _ _ _ refl (at-need 5 _ _ _ _ refl (of-between 5 refl bytes c a b))))
 
 -- nor does a call on a set (document 02, [14])
 pub set-write-never-5 : (ids : List ℕ) (room w : ℕ) → setWrite ids room ≡ refused 5 w → ⊥

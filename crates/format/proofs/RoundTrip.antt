@@ -1,7 +1,8 @@
 -- The column of a pair list, in every edition whose codec is lawful, is opened, read back to that list, and passes the check.
 -- Assumes nothing.
-use Rattle.format.specs.Kit.{_≡_, refl, ap, _∙_, true, false, List, [], _∷_, Option, none, some, bind, ℕ, suc, _+_, _*_, _^_, _<_, _≤_, zero-le}
-use Rattle.format.specs.Kit.{le-refl, arith, eqb, leb, ℤ, pos, length, getD, eq-eqb, eqb-false, le-leb, lt-leb, lt-ltb}
+use Rattle.format.specs.Kit.{_≡_, refl, sym, ap, _∙_, subst, true, false, List, [], _∷_, Option, none, some, bind, ℕ, zero, suc, _+_, _*_, _^_, _<_, _≤_}
+use Rattle.format.specs.Kit.{bind-eq-some-iff, map-eq-some-iff, Option·some-injective, take, drop, length-take-le, length-drop, getD-take, getD-drop}
+use Rattle.format.specs.Kit.{zero-le, le-refl, arith, eqb, leb, ℤ, pos, length, getD, eq-eqb, eqb-false, le-leb, lt-leb, lt-ltb}
 use Rattle.format.specs.Limits.{powerOk}
 use Rattle.format.specs.Refusals.{done, refused, andThen, need, given, needNone, ROOM}
 use Rattle.format.specs.Bytes.{bytesOf, same}
@@ -59,6 +60,44 @@ pub all-values : (vs : List ℤ) (f : ℕ → Option ℤ) → ((i : ℕ) → i <
 unfolding allValues bind
 all-values [] f h = refl
 all-values (v ∷ vs) f h = rw (h 0 (omega arith), all-values vs (λ i. f (suc i)) (λ i k. h (suc i) (omega arith)))
+
+-- the same values, one by one
+pub all-same : (n : ℕ) (f g : ℕ → Option ℤ) → ((i : ℕ) → i < n → f i ≡ g i) → allValues n f ≡ allValues n g
+unfolding allValues
+all-same zero f g h = refl
+all-same (suc n) f g h = rw (h 0 (omega arith), all-same n (λ i. f (suc i)) (λ i. g (suc i)) (λ i k. h (suc i) (omega arith)))
+
+-- of values that are all there: how many, each by its ordinal, and a part of them
+pub all-length : (n : ℕ) (f : ℕ → Option ℤ) (vs : List ℤ) → allValues n f ≡ some vs → length vs ≡ n
+unfolding allValues bind-eq-some-iff
+all-length zero f vs e = sym (ap length (Option·some-injective [] vs e))
+all-length (suc n) f vs e =
+    let s = bind-eq-some-iff (f 0) _ .0 e in
+    let t = map-eq-some-iff _ (allValues n (λ i. f (suc i))) .0 (s .2) in
+    subst (λ (l : List ℤ). length l ≡ suc n) (t .2) (ap suc (all-length n (λ i. f (suc i)) (t .0) (t .1)))
+
+pub all-at : (n : ℕ) (f : ℕ → Option ℤ) (vs : List ℤ) → allValues n f ≡ some vs → (i : ℕ) → i < n → f i ≡ some (getD vs i (pos 0))
+unfolding allValues bind-eq-some-iff
+all-at zero f vs e i h = absurd (omega arith)
+all-at (suc n) f vs e i h =
+    let s = bind-eq-some-iff (f 0) _ .0 e in
+    let t = map-eq-some-iff _ (allValues n (λ i. f (suc i))) .0 (s .2) in
+    subst (λ (l : List ℤ). f i ≡ some (getD l i (pos 0))) (t .2) (by i h (s .0) (s .1) (t .0) (λ j b. all-at n (λ i. f (suc i)) (t .0) (t .1) j b))
+  where
+    by : (i : ℕ) → i < suc n → (v : ℤ) → f 0 ≡ some v → (ws : List ℤ) → ((j : ℕ) → j < n → f (suc j) ≡ some (getD ws j (pos 0)))
+        → f i ≡ some (getD (v ∷ ws) i (pos 0))
+    by zero h v a ws more = a
+    by (suc i) h v a ws more = more i (omega arith)
+
+pub all-part : (n : ℕ) (f : ℕ → Option ℤ) (vs : List ℤ) → allValues n f ≡ some vs → (i m : ℕ) → i + m ≤ n
+    → allValues m (λ k. f (i + k)) ≡ some (take m (drop i vs))
+all-part n f vs e i m h =
+    let part : List ℤ = take m (drop i vs) in
+    let long : length part ≡ m = length-take-le m (drop i vs) (omega (arith, length-drop i vs, all-length n f vs e)) in
+    ap (λ (k : ℕ). allValues k (λ j. f (i + j))) (sym long)
+    ∙ all-values part (λ j. f (i + j))
+    (λ j b. all-at n f vs e (i + j) (omega (arith, b, long))
+    ∙ ap (λ (v : ℤ). some v) (sym (getD-take m (drop i vs) j (pos 0) (omega (arith, b, long)) ∙ getD-drop i vs j (pos 0))))
 
 pub runs-le : (p : ℕ) (gs : List Run) → length gs ≤ totalBytes p gs
 unfolding totalBytes blockBytes

@@ -1,13 +1,13 @@
 -- A codec with one smallest value, one divisor and one width is lawful for every sound packing. Assumes nothing.
-use Rattle.format.specs.Kit.{_≡_, refl, sym, ap, _∙_, subst, true, false, _&&_, leb, eqb, List, [], _∷_, some, ℕ, zero, suc, _/_, _^_, _<_, _≤_}
+use Rattle.format.specs.Kit.{_≡_, refl, sym, ap, _∙_, subst, true, false, _&&_, leb, eqb, List, [], _∷_, some, ℕ, zero, suc, _/_, _^_, _<_, _≤_, _∣_}
 use Rattle.format.specs.Kit.{div-le-self, lt-of-le-of-lt, mul-le-mul, arith, ℤ, pos, length, getD, List·getD-map, eq-eqb, le-leb}
 use Rattle.format.specs.Limits.{maxWidth}
 use Rattle.format.specs.HeaderNumbers.{zigzag, unzigzag}
 use Rattle.format.specs.Bits.{packedBytes}
-use Rattle.format.specs.Values.{fits64, smallest, over, spread, divisor, stored, valueAt}
+use Rattle.format.specs.Values.{fits64, smallest, over, spread, divisor, storedWith, stored, valueAt}
 use Rattle.format.specs.Pairs.{Each, Fits}
 use Rattle.format.specs.Codec.{Fields, Packing, signed64, widthBy, scaled}
-use Rattle.format.proofs.Values.{each-at, values-back, spread-each, length-stored, div-le-div}
+use Rattle.format.proofs.Values.{each-at, divides-each, values-back, spread-each, length-stored-with, length-stored, div-le-div}
 use Rattle.format.proofs.Fits.{unzigzag-zigzag}
 use Rattle.format.proofs.Bounds.{spread-lt, zig-lt, divisor-is}
 use Rattle.format.proofs.Orders.{Order, Orderly, packedBy, fetchedBy, length-packed, fetched-packed}
@@ -85,13 +85,20 @@ getD-any (v ∷ vs) zero d e k = refl
 getD-any (v ∷ vs) (suc i) d e k = getD-any vs i d e (omega arith)
 
 -- no stored number is above (max - min) / g
-stored-le : (vs : List ℤ) (i : ℕ) → zero < divisor vs → i < length vs → getD (stored vs) i 0 ≤ spread vs / divisor vs
-unfolding stored
-stored-le vs i h k =
-    let f : ℤ → ℕ = λ v. over (smallest vs) v / divisor vs in
-    subst (λ (x : ℕ). x ≤ spread vs / divisor vs)
-    (sym (getD-any (stored vs) i 0 (f (pos 0)) (omega (arith, length-stored vs)) ∙ List·getD-map f vs i (pos 0)))
+pub stored-le : (g : ℕ) (vs : List ℤ) (i : ℕ) → zero < g → i < length vs → getD (storedWith g vs) i 0 ≤ spread vs / g
+unfolding storedWith
+stored-le g vs i h k =
+    let f : ℤ → ℕ = λ v. over (smallest vs) v / g in
+    subst (λ (x : ℕ). x ≤ spread vs / g)
+    (sym (getD-any (storedWith g vs) i 0 (f (pos 0)) (omega (arith, length-stored-with g vs)) ∙ List·getD-map f vs i (pos 0)))
     (div-le-div (each-at (λ v. over (smallest vs) v ≤ spread vs) vs i (pos 0) (spread-each vs) k) h)
+
+-- the number stored of a value gives it back
+pub back-at : (g : ℕ) (vs : List ℤ) (i : ℕ) → Each (λ v. g ∣ over (smallest vs) v) vs → i < length vs
+    → valueAt (smallest vs) g (getD (storedWith g vs) i 0) ≡ getD vs i (pos 0)
+back-at g vs i d h =
+    let at : ℕ → ℤ = valueAt (smallest vs) g in
+    sym (List·getD-map at (storedWith g vs) i 0) ∙ ap (λ (l : List ℤ). getD l i (at 0)) (values-back g vs d) ∙ getD-any vs i (at 0) (pos 0) h
 
 -- ---- the codec
 
@@ -125,17 +132,12 @@ module _ (k : Packing) (sound : Sound k) (vs : List ℤ) (ok : Storable vs) wher
   keeps = rw (sound .allowed q q-lt, le-leb 1 (divisor vs) (divisor-is vs fit .0), eq-eqb _ _ size-is)
 
   comes-back : (i : ℕ) → i < length vs → scaled k .value (length vs) (scaled k .fields vs) (scaled k .section vs) i ≡ some (getD vs i (pos 0))
-  unfolding scaled q w
+  unfolding scaled q w stored
   comes-back i h =
       let j : i < length (stored vs) = omega (arith, length-stored vs) in
-      let at : ℕ → ℤ = valueAt (smallest vs) (divisor vs) in
-      let x : getD (stored vs) i 0 < 2 ^ w = lt-of-le-of-lt (stored-le vs i (divisor-is vs fit .0) h) (sound .enough q q-lt) in
+      let x : getD (stored vs) i 0 < 2 ^ w = lt-of-le-of-lt (stored-le (divisor vs) vs i (divisor-is vs fit .0) h) (sound .enough q q-lt) in
       rw (unzigzag-zigzag (smallest vs), number-back sound w (stored vs) i j x)
-      (ap signed64
-      (sym (List·getD-map at (stored vs) i 0)
-      ∙ ap (λ (l : List ℤ). getD l i (at 0)) (values-back vs)
-      ∙ getD-any vs i (at 0) (pos 0) h)
-      ∙ signed-some (getD vs i (pos 0)) (each-at Fits vs i (pos 0) fit h))
+      (ap signed64 (back-at (divisor vs) vs i (divides-each vs) h) ∙ signed-some (getD vs i (pos 0)) (each-at Fits vs i (pos 0) fit h))
 
 pub scaled-lawful : (k : Packing) → Sound k → Lawful (scaled k)
 unfolding scaled

@@ -1,6 +1,6 @@
 -- Runs of stores: in two parts, two that do not meet, from the front; and a loop that fills a buffer (`Fill`). Assumes nothing.
-use Rattle.format.specs.Kit.{_≡_, refl, sym, ap, _∙_, List, [], _∷_, _++_, ℕ, suc, _+_, _≤_, _<_, zero-add, arith, length, set, drop}
-use Rattle.format.specs.Kit.{length-append, sets, sets-eq, set-comm, length-sets}
+use Rattle.format.specs.Kit.{_≡_, refl, sym, ap, _∙_, List, [], _∷_, _++_, append-assoc, ℕ, suc, _+_, _-_, _≤_, _<_, zero-add, arith, length, set, take}
+use Rattle.format.specs.Kit.{drop, length-append, sets, sets-eq, set-comm, length-sets, putMid, post-is}
 use Rattle.format.specs.Stores.{Fill}
 
 -- ---- a run in two parts
@@ -32,6 +32,14 @@ sets-comm {A} l i (x ∷ xs) j ys h =
 
 pub sets-front : {A : Type 0} (l xs : List A) → length xs ≤ length l → sets l 0 xs ≡ xs ++ drop (length xs) l
 sets-front l xs h = sets-eq xs l 0 (omega arith) ∙ ap (λ (n : ℕ). xs ++ drop n l) (zero-add (length xs))
+
+-- ---- a part that was lent, and is put back
+
+pub part-put : {A : Type 0} (l part : List A) (at end : ℕ) → end ≡ at + length part → end ≤ length l → putMid at (end - at) l part ≡ sets l at part
+part-put {A} l part at end e h =
+    ap (λ (rest : List A). take at l ++ (part ++ rest)) (post-is at end l (omega arith) ∙ ap (λ (k : ℕ). drop k l) e)
+    ∙ sym (append-assoc (take at l) part (drop (at + length part) l))
+    ∙ sym (sets-eq part l at (omega arith))
 
 -- ---- a loop that fills a buffer: what is still to be stored from place i on gives what the whole gives from the first place on
 

@@ -4,8 +4,8 @@ use Rattle.format.specs.Kit.{_∣_, zero-le, suc-le-suc, dvd-zero, dvd-a
 use Rattle.format.specs.Kit.{pow-succ', add-comm, lt-of-le-of-lt, le-div-iff-mul-le, div-mul-le-self, arith, T, eqb, leb→le, le→leb, nleb→lt}
 use Rattle.format.specs.Kit.{lit<, ℤ, pos, negsuc, negℤ, natAbs, subℕ, _+ℤ_, _-ℤ_, +ℤ-comm, -ℤ-+ℤ-cancel, +ℤ-assoc, +ℤ-invl, +ℤ-idl, negℤ-+ℤ}
 use Rattle.format.specs.Kit.{negℤ-negℤ, length, getD, length-map, leZ, nonNeg, pos-natAbs, lt-ltb, le-ltb}
-use Rattle.format.specs.Values.{leastOf, mostOf, smallest, greatest, over, spread, gcdFrom, differences, divisor, stored, valueAt}
-use Rattle.format.specs.Values.{bitsIn, bitLength, width}
+use Rattle.format.specs.Values.{leastOf, mostOf, smallest, greatest, over, spread, gcdFrom, differences, divisor, storedWith, stored, valueAt}
+use Rattle.format.specs.Values.{bitsIn, bitLength, widthWith}
 use Rattle.format.specs.Pairs.{Below, Each}
 use Rattle.format.proofs.Cases.{below-or, true-or}
 use Rattle.format.proofs.Gcd.{gcdFrom-each, dvd-gcdFrom, each-value, each-number}
@@ -103,6 +103,18 @@ both-steps a b c =
     +ℤ-assoc c (negℤ b) (b +ℤ negℤ a)
     ∙ ap (λ (z : ℤ). c +ℤ z) (sym (+ℤ-assoc (negℤ b) b (negℤ a)) ∙ ap (λ (z : ℤ). z +ℤ negℤ a) (+ℤ-invl b) ∙ +ℤ-idl (negℤ a))
 
+-- a difference has no side
+negated : (z : ℤ) → natAbs (negℤ z) ≡ natAbs z
+negated (pos zero) = refl
+negated (pos (suc n)) = refl
+negated (negsuc n) = refl
+
+turned : (a b : ℤ) → negℤ (b -ℤ a) ≡ a -ℤ b
+turned a b = negℤ-+ℤ b (negℤ a) ∙ ap (λ (z : ℤ). negℤ b +ℤ z) (negℤ-negℤ a) ∙ +ℤ-comm (negℤ b) a
+
+pub over-sym : (a b : ℤ) → over a b ≡ over b a
+over-sym a b = sym (negated (b -ℤ a)) ∙ ap natAbs (turned a b)
+
 pub over-add : (a b c : ℤ) → T (leZ a b) → T (leZ b c) → over a c ≡ over a b + over b c
 over-add a b c h k =
     ap natAbs (sym (both-steps a b c) ∙ ap₂ _+ℤ_ (sym (pos-natAbs (c -ℤ b) (diff-nonNeg b c k))) (sym (pos-natAbs (b -ℤ a) (diff-nonNeg a b h))))
@@ -130,11 +142,8 @@ dvd-over d (negsuc a) (negsuc b) hm hv = dvd-subℕ d (suc a) (suc b) hm hv
 pub dvd-between : (d : ℕ) (a u v : ℤ) → d ∣ over a u → d ∣ over a v → d ∣ over u v
 dvd-between d a u v hu hv = subst (λ (z : ℤ). d ∣ natAbs z) apart (dvd-over d (u -ℤ a) (v -ℤ a) hu hv)
   where
-    turned : negℤ (u -ℤ a) ≡ a -ℤ u
-    turned = negℤ-+ℤ u (negℤ a) ∙ ap (λ (z : ℤ). negℤ u +ℤ z) (negℤ-negℤ a) ∙ +ℤ-comm (negℤ u) a
-
     apart : (v -ℤ a) -ℤ (u -ℤ a) ≡ v -ℤ u
-    apart = ap (λ (z : ℤ). (v -ℤ a) +ℤ z) turned ∙ both-steps u a v
+    apart = ap (λ (z : ℤ). (v -ℤ a) +ℤ z) (turned a u) ∙ both-steps u a v
 
 -- ---- the values come back
 
@@ -152,14 +161,14 @@ unfolding smallest
 smallest-has P v vs t = least-has P v vs (t .0) (t .1)
 
 -- the greatest common divisor of the differences to a
-abbrev gcdTo : ℤ → List ℤ → ℕ
+abbrev pub gcdTo : ℤ → List ℤ → ℕ
 gcdTo a vs = gcdFrom 0 (map (over a) vs)
 
-gcd-to-each : (a : ℤ) (vs : List ℤ) → Each (λ u. gcdTo a vs ∣ over a u) vs
+pub gcd-to-each : (a : ℤ) (vs : List ℤ) → Each (λ u. gcdTo a vs ∣ over a u) vs
 gcd-to-each a vs = each-value (gcdTo a vs) (over a) vs (gcdFrom-each 0 (map (over a) vs))
 
 -- if it divides that of b, it divides the one to b
-to-other : (a b : ℤ) (vs : List ℤ) → gcdTo a vs ∣ over a b → gcdTo a vs ∣ gcdTo b vs
+pub to-other : (a b : ℤ) (vs : List ℤ) → gcdTo a vs ∣ over a b → gcdTo a vs ∣ gcdTo b vs
 to-other a b vs h =
     let k : ℕ = gcdTo a vs in
     dvd-gcdFrom k 0 (map (over b) vs) (dvd-zero k)
@@ -191,12 +200,13 @@ pub value-back : (m : ℤ) (g : ℕ) (v : ℤ) → T (leZ m v) → g ∣ over m 
 unfolding valueAt
 value-back m g v h d = rw (mul-div-cancel' g d) (over-back m v h)
 
-pub values-back : (vs : List ℤ) → map (valueAt (smallest vs) (divisor vs)) (stored vs) ≡ vs
-unfolding stored
-values-back vs =
-    map-map (valueAt (smallest vs) (divisor vs)) (λ v. over (smallest vs) v / divisor vs) vs
-    ∙ map-same (λ v. valueAt (smallest vs) (divisor vs) (over (smallest vs) v / divisor vs)) vs
-    (each-two (value-back (smallest vs) (divisor vs)) vs (smallest-each vs) (divides-each vs))
+-- by any g that divides the differences to the smallest
+pub values-back : (g : ℕ) (vs : List ℤ) → Each (λ v. g ∣ over (smallest vs) v) vs → map (valueAt (smallest vs) g) (storedWith g vs) ≡ vs
+unfolding storedWith
+values-back g vs d =
+    map-map (valueAt (smallest vs) g) (λ v. over (smallest vs) v / g) vs
+    ∙ map-same (λ v. valueAt (smallest vs) g (over (smallest vs) v / g)) vs
+    (each-two (value-back (smallest vs) g) vs (smallest-each vs) d)
 
 -- ---- the stored numbers fit the width
 
@@ -262,15 +272,19 @@ below-map : (b : ℕ) (f : ℤ → ℕ) (vs : List ℤ) → Each (λ v. f v < b)
 below-map b f [] t = tt
 below-map b f (v ∷ vs) t = (t .0, below-map b f vs (t .1))
 
+pub length-stored-with : (g : ℕ) (vs : List ℤ) → length (storedWith g vs) ≡ length vs
+unfolding storedWith
+length-stored-with g vs = length-map vs _
+
 pub length-stored : (vs : List ℤ) → length (stored vs) ≡ length vs
 unfolding stored
-length-stored vs = length-map vs _
+length-stored vs = length-stored-with (divisor vs) vs
 
 pub div-le-div : {a b g : ℕ} → a ≤ b → zero < g → a / g ≤ b / g
 div-le-div {a} {b} {g} k j = le-div-iff-mul-le j .1 (le-trans (div-mul-le-self a g) k)
 
-pub stored-below : (vs : List ℤ) → zero < divisor vs → Below (2 ^ width vs) (stored vs)
-unfolding stored width
-stored-below vs h =
-    below-map (2 ^ bitLength (spread vs / divisor vs)) (λ v. over (smallest vs) v / divisor vs) vs
-    (each-map (λ v t. lt-of-le-of-lt (div-le-div t h) (bit-length (spread vs / divisor vs))) vs (spread-each vs))
+pub stored-below : (g : ℕ) (vs : List ℤ) → zero < g → Below (2 ^ widthWith g vs) (storedWith g vs)
+unfolding storedWith widthWith
+stored-below g vs h =
+    below-map (2 ^ bitLength (spread vs / g)) (λ v. over (smallest vs) v / g) vs
+    (each-map (λ v t. lt-of-le-of-lt (div-le-div t h) (bit-length (spread vs / g))) vs (spread-each vs))

@@ -5,18 +5,20 @@ use Rattle.format.specs.Bits.{packed, fetched}
 use Rattle.format.specs.BitsLow.{packedLow, fetchedLow}
 use Rattle.format.specs.Values.{bitLength}
 use Rattle.format.specs.Codec.{Codec, Packing, scaled}
+use Rattle.format.specs.ValueRuns.{inRuns}
 
--- document 01's, edition 1; Lucene 9's packing, edition 2 (document 02, [6])
+-- document 01's, edition 1; Lucene 9's packing, edition 2 (document 02, [6]); values in runs, edition 3 (document 02, [11])
 pub data Edition : Type 0 where
-  plain lucene : Edition
+  plain lucene runs : Edition
 
 unfoldable pub numberOf : Edition → ℕ
 numberOf plain = 1
 numberOf lucene = 2
+numberOf runs = 3
 
 -- all of them
 unfoldable pub editions : List Edition
-editions = plain ∷ lucene ∷ []
+editions = plain ∷ lucene ∷ runs ∷ []
 
 -- the edition of a number, among those that a reader knows
 unfoldable pub editionIn : List Edition → ℕ → Option Edition
@@ -55,3 +57,4 @@ lowFirst = record { widthFor = firstEnough luceneWidths; widthOk = among luceneW
 unfoldable pub codec : Edition → Codec
 codec plain = scaled highFirst
 codec lucene = scaled lowFirst
+codec runs = inRuns

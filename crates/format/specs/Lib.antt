@@ -10,6 +10,7 @@ pub mod Ids
 pub mod IdsRead
 pub mod Values
 pub mod Codec
+pub mod ValueRuns
 pub mod Editions
 pub mod Pairs
 pub mod Steps
@@ -22,6 +23,7 @@ pub mod LookUp
 pub mod Walk
 pub mod Next
 pub mod Layered
+pub mod FirstBetween
 pub mod SetBytes
 pub mod SetCalls
 pub mod Page

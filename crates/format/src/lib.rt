@@ -72,6 +72,13 @@ pub struct Next {
     pub candidate: Candidate,
 }
 
+// The first ordinal with a value in a range, none, or a refusal (document 02, [11]).
+pub enum Between {
+    Found(u64),
+    Nothing,
+    Refused(Refusal),
+}
+
 // What membership in a set on disk answers (document 02, [14]): the id's ordinal, or that it is not there.
 pub enum Member {
     Found(u64),
@@ -113,7 +120,7 @@ pub struct Fields {
     pub divisor: u64,
 }
 
-// The value of an ordinal, or that it does not fit in 64 bits.
+// The value of an ordinal, or that there is none: it does not fit in 64 bits, or its number is not in the section.
 pub enum Fetched {
     Value(i64),
     Outside,

@@ -103,14 +103,15 @@ fn value_of(v: Values, i: u64, x: u64) -> u64 {
     wrapping_add_u64(v.smallest, stored << (v.shift % 64))
 }
 
-// Puts n values, without sign and signed.
-pub fn fill_values(values: &mut [u64], signed: &mut [i64], n: u64, v: Values) {
+// Puts n values from an index on, without sign and signed.
+pub fn fill_values(values: &mut [u64], signed: &mut [i64], first: u64, n: u64, v: Values) {
     let mut x = 88172645463325252;
     for i in 0..n {
         x = random(x);
+        let at = wrapping_add_u64(first, i);
         let value = value_of(v, i, x);
-        put_value(values, i, value);
-        put_signed(signed, i, signed_of(value));
+        put_value(values, at, value);
+        put_signed(signed, at, signed_of(value));
     }
 }
 
@@ -118,6 +119,19 @@ fn put(out: &mut [u8], i: u64, x: u64) {
     let at = i as usize;
     if at < out.len() {
         out[at] = (x % 256) as u8;
+    }
+}
+
+pub fn put_byte(out: &mut [u8], at: usize, x: u8) {
+    if at < out.len() {
+        out[at] = x;
+    }
+}
+
+// Puts these bytes at the front.
+pub fn copy(out: &mut [u8], bytes: &[u8]) {
+    for i in 0..bytes.len() {
+        put_byte(out, i, bytes[i]);
     }
 }
 

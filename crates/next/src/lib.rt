@@ -160,8 +160,9 @@ fn steps_from(bytes: &[u8], column: Column, target: u32) -> Sum
     let section = &bytes[end..];
     let edition = head.edition;
     let fields = head.fields;
-    let stored = values::stored_at(section, edition, head.count, fields, ordinal);
-    let Fetched::Value(value) = values::value_of(fields, stored) else {
+    let slot = values::slot_of(section, edition, head.count, fields, ordinal);
+    let stored = values::number_in(section, edition, slot);
+    let Fetched::Value(value) = values::value_of(fields, slot, stored) else {
         return no_more(2);
     };
     Sum {

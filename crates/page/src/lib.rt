@@ -69,8 +69,9 @@ fn valued(bytes: &[u8], column: Column, ordinal: u64, words: u64) -> Held
     let section = &bytes[end..];
     let edition = head.edition;
     let fields = head.fields;
-    let stored = values::stored_at(section, edition, head.count, fields, ordinal);
-    let Fetched::Value(value) = values::value_of(fields, stored) else {
+    let slot = values::slot_of(section, edition, head.count, fields, ordinal);
+    let stored = values::number_in(section, edition, slot);
+    let Fetched::Value(value) = values::value_of(fields, slot, stored) else {
         return refused(15);
     };
     Held {

@@ -63,6 +63,12 @@ pub fn put_int(out: &mut [u8], at: u64, x: u64) -> u64 {
     put_short(out, next, x / 65536)
 }
 
+// Eight bytes, low byte first.
+pub fn put_long(out: &mut [u8], at: u64, x: u64) -> u64 {
+    let next = put_int(out, at, x);
+    put_int(out, next, x / 4294967296)
+}
+
 // Bit k of x, bit 0 the lowest.
 pub fn bit(x: u64, k: u64) -> u64 {
     (x >> (k % 64)) % 2

@@ -5,6 +5,7 @@ mod bytes;
 pub mod fetching;
 mod header;
 mod ids;
+mod runs;
 mod values;
 
 use bytes::minus;
@@ -71,7 +72,7 @@ fn judged(ids: &[u32], values: &[u64], edition: u64, power: u64) -> Outcome {
     if n != values.len() as u64 {
         return refused(1, 0);
     }
-    if edition != 1 && edition != 2 {
+    if edition < 1 || edition > 3 {
         return refused(9, 0);
     }
     if !power_ok(power) {
@@ -113,21 +114,39 @@ fn block_bytes(ids: &[u32], power: u64) -> u64 {
     ids::put_section(&mut [0u8; 0], s, ids)
 }
 
+// Editions 1 and 2 pack all values alike; in edition 3 the section has its own bytes, put nowhere.
+fn value_bytes(values: &[u64], edition: u64, f: values::Facts) -> u64 {
+    if edition == 3 {
+        return runs::put_section(&mut [0u8; 0], 0, values, f.divisor);
+    }
+    plus(times(values.len() as u64, f.width), 7) / 8
+}
+
+// In edition 3 the header's width and smallest value are 0.
 fn fields_of(ids: &[u32], values: &[u64], edition: u64, power: u64) -> header::Fields {
-    let n = ids.len() as u64;
     let f = values::facts_of(values, edition == 2);
+    let own = edition == 3;
     let jumps = ids::entries(ids::blocks(ids));
     header::Fields {
         edition,
-        count: n,
+        count: ids.len() as u64,
         power,
         id_bytes: plus(plus(block_bytes(ids, power), 6), jumps << 3),
         jumps,
-        width: f.width,
-        smallest: values::folded(f.smallest),
+        width: if own { 0 } else { f.width },
+        smallest: if own { 0 } else { values::folded(f.smallest) },
         divisor: f.divisor,
-        value_bytes: plus(times(n, f.width), 7) / 8,
+        value_bytes: value_bytes(values, edition, f),
     }
+}
+
+fn put_value_section(out: &mut [u8], base: u64, values: &[u64], f: header::Fields) {
+    if f.edition == 3 {
+        runs::put_section(out, base, values, f.divisor);
+        return;
+    }
+    let facts = values::facts_of(values, f.edition == 2);
+    values::put_values(out, base, values, facts, times(f.count, f.width));
 }
 
 fn put_column(out: &mut [u8], ids: &[u32], values: &[u64], f: header::Fields) {
@@ -140,8 +159,7 @@ fn put_column(out: &mut [u8], ids: &[u32], values: &[u64], f: header::Fields) {
         power: f.power,
     };
     ids::put_section(out, s, ids);
-    let facts = values::facts_of(values, f.edition == 2);
-    values::put_values(out, end, values, facts, times(f.count, f.width));
+    put_value_section(out, end, values, f);
 }
 
 // Writes the column to the front of out. No start needs a test: 32766 blocks of at most 9220 bytes end far below 2147483647 (document 02,

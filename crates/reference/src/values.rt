@@ -1,4 +1,5 @@
-// The value section (document 01, "Value section"; document 02, [2] and [6]). A value v stands here as v + 2^63.
+// Values packed (document 01, "Value section"; document 02, [2] and [6]): all of them, or a run (document 02, [11]). A value v stands here as
+// v + 2^63.
 use super::bytes;
 use super::bytes::ZERO;
 use super::bytes::plus;
@@ -10,9 +11,11 @@ struct Span {
     divisor: u64,
 }
 
-// In edition 2 bits stand low first.
+// What values are packed by, and the index of the first of them. In edition 2 bits stand low first.
 pub struct Facts {
+    pub first: u64,
     pub smallest: u64,
+    pub greatest: u64,
     pub divisor: u64,
     pub width: u64,
     pub low: bool,
@@ -60,14 +63,15 @@ fn with_value(s: Span, first: u64, v: u64) -> Span {
     }
 }
 
-fn span_of(values: &[u64]) -> Span {
-    let first = bytes::value(values, 0);
+// Of the values from an index to before an end.
+fn span_of(values: &[u64], from: u64, end: u64) -> Span {
+    let first = bytes::value(values, from);
     let mut s = Span {
         smallest: first,
         greatest: first,
         divisor: 0,
     };
-    for i in 0..values.len() as u64 {
+    for i in from..end {
         s = with_value(s, first, bytes::value(values, i));
     }
     s
@@ -97,24 +101,32 @@ fn listed(w: u64) -> u64 {
     }
 }
 
-// All values equal (or none, which read as 0): divisor 1, width 0.
+// Of all values. If they are equal (or there is none, which reads as 0): divisor 1, width 0.
 pub fn facts_of(values: &[u64], low: bool) -> Facts {
-    let s = span_of(values);
-    if s.smallest == s.greatest {
-        return Facts {
-            smallest: s.smallest,
-            divisor: 1,
-            width: 0,
-            low,
-        };
-    }
-    let most = quotient(bytes::minus(s.greatest, s.smallest), s.divisor);
-    let width = width_of(most);
+    let s = span_of(values, 0, values.len() as u64);
+    let equal = s.smallest == s.greatest;
+    let divisor = if equal { 1 } else { s.divisor };
+    let width = width_of(quotient(bytes::minus(s.greatest, s.smallest), divisor));
     Facts {
+        first: 0,
         smallest: s.smallest,
-        divisor: s.divisor,
+        greatest: s.greatest,
+        divisor,
         width: if low { listed(width) } else { width },
         low,
+    }
+}
+
+// Of the values from an index to before an end, by the divisor of all.
+pub fn facts_in(values: &[u64], first: u64, end: u64, divisor: u64) -> Facts {
+    let s = span_of(values, first, end);
+    Facts {
+        first,
+        smallest: s.smallest,
+        greatest: s.greatest,
+        divisor,
+        width: width_of(quotient(bytes::minus(s.greatest, s.smallest), divisor)),
+        low: false,
     }
 }
 
@@ -127,9 +139,10 @@ fn below(low: bool, bits: u64, k: u64) -> u64 {
     }
 }
 
-// Bit j of the section, in byte j div 8: a bit of value j div w. The bits of a value and those of a byte come in the same order.
+// Bit j of the packed values, in byte j div 8: a bit of value j div w. The bits of a value and those of a byte come in the same order.
 fn put_value_bit(out: &mut [u8], base: u64, values: &[u64], f: Facts, j: u64) {
-    let above = bytes::minus(bytes::value(values, quotient(j, f.width)), f.smallest);
+    let value = bytes::value(values, plus(f.first, quotient(j, f.width)));
+    let above = bytes::minus(value, f.smallest);
     let one = bytes::bit(
         quotient(above, f.divisor),
         below(f.low, f.width, rest(j, f.width)),
@@ -143,7 +156,7 @@ fn put_value_bit(out: &mut [u8], base: u64, values: &[u64], f: Facts, j: u64) {
     );
 }
 
-// Puts the section, of that many bits.
+// Puts packed values, of that many bits.
 pub fn put_values(out: &mut [u8], base: u64, values: &[u64], f: Facts, bits: u64) {
     for j in 0..bits {
         put_value_bit(out, base, values, f, j);

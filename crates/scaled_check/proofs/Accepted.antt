@@ -5,7 +5,7 @@ use Rattle.format.specs.Kit.{mul-zero, eq-of-mul-eq-mul-left, lt-of-lt-of-le, a
 use Rattle.format.specs.Kit.{List·getD-eq-default, eqb-true, eq-eqb, ne-eqb, leb-true, le-leb, lt-leb}
 use Rattle.format.specs.HeaderNumbers.{zigzag, unzigzag}
 use Rattle.format.specs.Bits.{tabulate, bitBytes}
-use Rattle.format.specs.Values.{smallest, greatest, gcdFrom, divisor, stored, spread}
+use Rattle.format.specs.Values.{smallest, greatest, gcdFrom, divisor, stored, storedWith, spread}
 use Rattle.format.specs.Pairs.{Below, Each, Fits}
 use Rattle.format.specs.Codec.{Fields, widthBy, scaled}
 use Rattle.format.proofs.Cases.{below-or, equal-or}
@@ -22,9 +22,9 @@ use Rattle.scaled_values.specs.Held.{numbersIn, valueFrom, valuesFrom}
 use Rattle.scaled_values.proofs.Facts.{Rules, rules-kept}
 use Rattle.scaled_values.proofs.Held.{numbers-below, length-numbers, all-held}
 use Rattle.scaled_check.specs.ValuesOk.{rangeOk, numbersOk, equalOk, spreadOk, valuesOk}
-use Rattle.scaled_check.proofs.Stored.{leastFrom, mostFrom, most-first, value-zero, fits-below, each-fits}
-use Rattle.scaled_check.proofs.Ranged.{most-below, least-le, greatest-is, zero-there, zero-needed}
-use Rattle.scaled_check.proofs.Ranged.{divisor-equal, divisor-spread, over-is, stored-is}
+use Rattle.scaling.specs.Numbers.{leastFrom, mostFrom}
+use Rattle.scaling.proofs.Stored.{most-first, value-zero, fits-below, each-fits}
+use Rattle.scaling.proofs.Ranged.{most-below, least-le, greatest-is, zero-there, zero-needed, divisor-equal, divisor-spread, own-over, own-stored}
 use Rattle.scaled_check.proofs.Tested.{numbers-are}
 use Rattle.format.proofs.Tests.{both-true, true-both, or-left, or-right}
 
@@ -84,11 +84,11 @@ module _ (o : Order) (n : ℕ) (h : Fields) (s : List ℕ) (facts : Rules o n h 
     made lo d b f spare =
         let p : 0 < h .divisor = facts .positive in
         let a : smallest (vs (x ∷ xs)) ≡ m = zero-there m (h .divisor) p x xs lo in
-        let k : widthBy (packingOf o) (vs (x ∷ xs)) ≡ w = ap (packingOf o .widthFor) (over-is m (h .divisor) p x xs lo d) ∙ b in
+        let k : widthBy (packingOf o) (vs (x ∷ xs)) ≡ w = ap (packingOf o .widthFor) (own-over m (h .divisor) p x xs lo d) ∙ b in
         record {
           count = length-map (x ∷ xs) (valueFrom h) ∙ ap length (sym e) ∙ length-numbers o w n s;
           fit = (fits-below m (h .divisor) p x (mostFrom x xs) m-fits f (most-first x xs), each-fits m (h .divisor) p x xs m-fits f);
-          bytes = ap₂ (packingOf o .pack) k (stored-is m (h .divisor) p x xs a d ∙ sym e) ∙ packed-is spare;
+          bytes = ap₂ (packingOf o .pack) k (own-stored m (h .divisor) p x xs a d ∙ sym e) ∙ packed-is spare;
           width-is = k;
           smallest-is = ap zigzag a ∙ zigzag-unzigzag (h .smallest);
           divisor-is = d;
@@ -137,7 +137,8 @@ module _ (o : Order) (n : ℕ) (h : Fields) (s : List ℕ) (facts : Rules o n h 
         let p : 0 < h .divisor = facts .positive in
         let a : smallest (vs (x ∷ xs)) ≡ m = sym (unzigzag-zigzag (smallest (vs (x ∷ xs)))) ∙ ap unzigzag (v .smallest-is) in
         let lo : leastFrom x xs ≡ 0 = zero-needed m (h .divisor) p x xs a in
-        let b : packingOf o .widthFor (mostFrom x xs) ≡ w = ap (packingOf o .widthFor) (sym (over-is m (h .divisor) p x xs lo (v .divisor-is))) ∙ v .width-is in
+        let b : packingOf o .widthFor (mostFrom x xs) ≡ w = ap (packingOf o .widthFor) (sym (own-over m (h .divisor) p x xs lo (v .divisor-is)))
+        ∙ v .width-is in
         let q : mostFrom x xs < 2 ^ 64 = lt-of-lt-of-le lt-most (pow-mono {j = 64} (facts .narrow)) in
         let top : 2 ^ narrowerBy o w ≤ mostFrom x xs = top-is o w (mostFrom x xs) (facts .allowed) z q b in
         let hi : 0 < mostFrom x xs = omega (arith, pow-pos (narrowerBy o w)) in
@@ -146,7 +147,7 @@ module _ (o : Order) (n : ℕ) (h : Fields) (s : List ℕ) (facts : Rules o n h 
         let f : Fits (valueFrom h (mostFrom x xs)) =
         subst Fits (greatest-is m (h .divisor) p x xs) (greatest-fits (vs (x ∷ xs)) (v .fit)) in (
           true-both _ _ (true-both _ _ (true-both _ _ (eq-eqb _ _ lo) (le-leb _ _ top)) (eq-eqb _ _ one)) f,
-          sym (ap₂ (packingOf o .pack) (v .width-is) (stored-is m (h .divisor) p x xs a (v .divisor-is))) ∙ v .bytes,
+          sym (ap₂ (packingOf o .pack) (v .width-is) (own-stored m (h .divisor) p x xs a (v .divisor-is))) ∙ v .bytes,
         )
 
     numbers-from : numbersOk o h (2 ^ w - 1) 0 0 (x ∷ xs) ≡ rangeOk o h (leastFrom x xs) (mostFrom x xs) (gcdFrom 0 (x ∷ xs))
@@ -160,7 +161,7 @@ module _ (o : Order) (n : ℕ) (h : Fields) (s : List ℕ) (facts : Rules o n h 
   -- ---- width 0
 
   none-made : n ≡ 0 → w ≡ 0 → h .divisor ≡ 1 → h .smallest ≡ 0 → MadeOf o n h s []
-  unfolding stored smallest greatest divisor spread
+  unfolding stored storedWith smallest greatest divisor spread
   none-made a b c d =
       record {
         count = sym a;

@@ -1,6 +1,4 @@
 -- The value section's tests accept exactly the section of its values (Accepted), and the laws behind it and behind the code.
-pub mod Stored
-pub mod Ranged
 pub mod Tested
 pub mod Accepted
 pub mod Turns

@@ -4,7 +4,7 @@ use Rattle.format.specs.Values.{gcd, gcdFrom}
 use Rattle.format.specs.Codec.{Fields}
 use Rattle.packings.specs.declared.Order.{Order}
 use Rattle.scaled_check.specs.ValuesOk.{rangeOk, numbersOk}
-use Rattle.scaled_check.proofs.Stored.{leastFrom, mostFrom}
+use Rattle.scaling.specs.Numbers.{leastFrom, mostFrom}
 
 -- ---- the numbers in a section
 

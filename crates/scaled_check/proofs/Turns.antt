@@ -21,8 +21,9 @@ use Rattle.scaled_values.proofs.Facts.{Rules}
 use Rattle.scaled_values.proofs.Held.{numbers-below, length-numbers, number-at}
 use Rattle.format.proofs.Gcd.{gcdFrom-one}
 use Rattle.scaled_check.specs.ValuesOk.{rangeOk, numbersOk}
-use Rattle.scaled_check.proofs.Stored.{leastFrom, mostFrom, most-first, fits-below}
-use Rattle.scaled_check.proofs.Ranged.{most-below, least-le}
+use Rattle.scaling.specs.Numbers.{leastFrom, mostFrom}
+use Rattle.scaling.proofs.Stored.{most-first, fits-below}
+use Rattle.scaling.proofs.Ranged.{most-below, least-le}
 use Rattle.scaled_check.proofs.Tested.{numbers-are}
 use Rattle.format.proofs.Tests.{both-true, true-both}
 

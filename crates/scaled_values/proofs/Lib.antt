@@ -2,3 +2,4 @@
 pub mod Facts
 pub mod Store
 pub mod Held
+pub mod WholeSlot

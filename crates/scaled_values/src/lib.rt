@@ -5,12 +5,23 @@ ghost use mathlib.Core.List.{_++_};
 ghost use Prim.Native.Nat.{_*_, _≤_};
 ghost use lib.ListN.{length, drop};
 ghost use Rattle.format.specs.Limits.{maxCount, maxWidth};
+ghost use Rattle.format.specs.Bits.{packedBytes};
+ghost use Rattle.format.specs.Values.{storedWith};
 ghost use Rattle.format.specs.Pairs.{Each, Fits};
 ghost use Rattle.format.specs.Codec.{scaled};
 ghost use Rattle.format.specs.Replies.{fieldsOf};
 ghost use Rattle.packings.specs.Packings.{packingOf};
+ghost use Rattle.scaled_values.specs.Storing.{Storing};
 use format::Fields;
 use packings::Order;
+
+mod slots;
+
+pub use slots::Slot;
+pub use slots::Slotted;
+pub use slots::number_in;
+pub use slots::value_of;
+pub use slots::whole;
 
 // What the header says of the values.
 pub fn plan(order: Order, values: &[i64]) -> Fields
@@ -46,16 +57,13 @@ pub fn rules(order: Order, n: u64, fields: Fields, v: u64) -> bool
     v == packing::packed_bytes(n, fields.width)
 }
 
-// Writes the value section to the front of out, the part of the output that starts where the section starts.
-pub fn put(out: &mut [u8], order: Order, values: &[i64], fields: Fields)
-    requires { ⌜ (fieldsOf fields ≡ scaled (packingOf order) .fields (now values)) × Each Fits (now values)
-        × (length (scaled (packingOf order) .section (now values)) ≤ length (now out)) ⌝ }
-    ensures { λ _. ⌜ now (out .exit) ≡ scaled (packingOf order) .section (now (values .entry))
-        ++ drop (length (scaled (packingOf order) .section (now (values .entry)))) (now (out .entry)) ⌝ }
+// Writes the numbers stored of the values, by a divisor and from the smallest value on (`low`, biased), packed at the width for them, to the
+// front of out.
+pub fn put_numbers(out: &mut [u8], order: Order, values: &[i64], low: u64, divisor: u64, w: usize)
+    requires { ⌜ Storing order (now values) low divisor w (length (now out)) ⌝ }
+    ensures { λ _. ⌜ now (out .exit) ≡ packingOf order .pack w (storedWith divisor (now (values .entry)))
+        ++ drop (packedBytes (length (now (values .entry))) w) (now (out .entry)) ⌝ }
 {
-    let low = signed::biased_of(fields.smallest);
-    let divisor = fields.divisor;
-    let w = fields.width as usize;
     let m = scaling::reciprocal(divisor);
     let mut p = packing::Pending {
         at: 0,
@@ -69,4 +77,22 @@ pub fn put(out: &mut [u8], order: Order, values: &[i64], fields: Fields)
         i += 1;
     }
     packings::finish(out, order, p);
+}
+
+// Writes the value section to the front of out, the part of the output that starts where the section starts.
+pub fn put(out: &mut [u8], order: Order, values: &[i64], fields: Fields)
+    requires { ⌜ (fieldsOf fields ≡ scaled (packingOf order) .fields (now values)) × Each Fits (now values)
+        × (length (scaled (packingOf order) .section (now values)) ≤ length (now out)) ⌝ }
+    ensures { λ _. ⌜ now (out .exit) ≡ scaled (packingOf order) .section (now (values .entry))
+        ++ drop (length (scaled (packingOf order) .section (now (values .entry)))) (now (out .entry)) ⌝ }
+{
+    let low = signed::biased_of(fields.smallest);
+    put_numbers(
+        out,
+        order,
+        values,
+        low,
+        fields.divisor,
+        fields.width as usize,
+    );
 }

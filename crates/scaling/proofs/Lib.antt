@@ -3,3 +3,5 @@ pub mod Guess
 pub mod Extremes
 pub mod Spread
 pub mod Keep
+pub mod Stored
+pub mod Ranged

@@ -11,7 +11,7 @@ ghost use Rattle.format.specs.Values.{smallest, spread, gcd, gcdFrom, differenc
 ghost use Rattle.format.specs.Pairs.{Each, Fits};
 ghost use Rattle.format.specs.Codec.{signed64};
 ghost use Rattle.format.specs.Replies.{fetchedOf};
-ghost use Rattle.signed.specs.Sign.{biased};
+ghost use Rattle.signed.specs.Sign.{biased, unbiased};
 ghost use Rattle.scaling.specs.Scaled.{EndsOf, Scaled};
 ghost use Rattle.scaling.specs.Reciprocal.{Reciprocal};
 use format::Fetched;
@@ -227,15 +227,22 @@ pub fn product_fits(stored: u64, divisor: u64, room: u64) -> bool
     stored <= room / divisor
 }
 
-// Document 01, the look-up's step 7: smallest + g times the stored number, which must fit in 64 bits. `smallest` is a header number.
+// Document 01, the look-up's step 7: smallest + g times the stored number, which must fit in 64 bits. `low` is the smallest, biased.
+pub fn value_above(low: u64, divisor: u64, stored: u64) -> Fetched
+    requires { ⌜ 0 < divisor ⌝ }
+    ensures { λ r. ⌜ fetchedOf r ≡ signed64 (valueAt (unbiased low) divisor stored) ⌝ }
+{
+    if product_fits(stored, divisor, u64::MAX - low) {
+        Fetched::Value(signed::unbiased(low + stored * divisor))
+    } else {
+        Fetched::Outside
+    }
+}
+
+// The same where `smallest` is a header number.
 pub fn value_of(smallest: u64, divisor: u64, stored: u64) -> Fetched
     requires { ⌜ 0 < divisor ⌝ }
     ensures { λ r. ⌜ fetchedOf r ≡ signed64 (valueAt (unzigzag smallest) divisor stored) ⌝ }
 {
-    let b = signed::biased_of(smallest);
-    if product_fits(stored, divisor, u64::MAX - b) {
-        Fetched::Value(signed::unbiased(b + stored * divisor))
-    } else {
-        Fetched::Outside
-    }
+    value_above(signed::biased_of(smallest), divisor, stored)
 }

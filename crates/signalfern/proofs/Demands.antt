@@ -2,24 +2,27 @@
 -- `read` and `look_up` in src/lib.rt, and a list with ′ is a lent buffer after the call. Assumes nothing.
 use Rattle.format.specs.Kit.{_≡_, refl, sym, ap, _∙_, subst, List, _++_, ℕ, _≤_, arith, ℤ, length, take, drop, take-at, le-leb}
 use Rattle.format.specs.Limits.{maxId}
-use Rattle.format.specs.Refusals.{Outcome, done, refused, andThen, need, SHORT, NUMBER}
+use Rattle.format.specs.Refusals.{Outcome, done, refused, andThen, need, SHORT, NUMBER, EDITION}
 use Rattle.format.specs.Pairs.{Pairs, Below, Each, Fits, Valid}
-use Rattle.format.specs.Editions.{Edition, numberOf, editions}
+use Rattle.format.specs.Editions.{Edition, runs, numberOf, editions}
 use Rattle.format.specs.Column.{column}
 use Rattle.format.specs.Writer.{writeAs, write, writeReply, writeOut}
 use Rattle.format.specs.Opening.{Opened, openColumn}
 use Rattle.format.specs.Check.{accepted, check, reading, readReply, idsAfter, valuesAfter}
 use Rattle.format.specs.LookUp.{stepProbes, lookUp, lookUpProbes}
 use Rattle.format.specs.Walk.{walk, wordless, words, strideWords, probes, listAnswer}
-use Rattle.format.specs.Replies.{replyOf, answerOf, Probed}
+use Rattle.format.specs.FirstBetween.{firstBetween, firstIn}
+use Rattle.format.specs.Replies.{replyOf, answerOf, betweenOf, Probed}
 use Rattle.format.specs.declared.Reply.{Reply}
 use Rattle.format.specs.declared.Answer as An
 use Rattle.format.specs.declared.Answer.{Answer}
+use Rattle.format.specs.declared.Between.{Between}
 use Rattle.format.proofs.Tests.{result, needed, given-some, passed}
 use Rattle.format.proofs.Editions.{lawful-reader, found-number}
 use Rattle.format.proofs.Unique.{written-valid, is-read}
 use Rattle.format.proofs.HeaderFaults.{BrokenAt, EndsAt, number-fault, short-fault, check-from, reading-from, look-up-from}
 use Rattle.format.proofs.Probes.{step-probes-few, opened-probes, look-up-probes-few, accepted-probes}
+use Rattle.format.proofs.FirstBetween.{accepted-between, other-between}
 use Rattle.format.proofs.Demands.{written-told, checked-all, read-back-all, accepted-answers}
 use Rattle.signalfern.proofs.Outputs.{output-kept, output-put, output-is}
 
@@ -220,6 +223,17 @@ module _ (bytes : List ℕ) (c : Reply) (n : ℕ) (kept : replyOf c ≡ check ed
       let o = check-holds .is-opened in
       let s = accepted-probes editions (lawful-reader editions) bytes (check-holds .opened) (check-holds .pairs) o (check-holds .is-accepted) id h in
       subst (λ (n : ℕ). Probed n a) (opened-probes editions bytes (check-holds .opened) id o ∙ s) k
+
+  -- ---- document 02, [11]: on those bytes, if they are of edition 3, the question is the plain scan of the list; else EDITION
+
+  pub check-then-between : (a b : ℤ) (r : Between) → betweenOf r ≡ firstBetween bytes a b → check-holds .opened .head .edition ≡ runs
+      → betweenOf r ≡ done (firstIn a b 0 (check-holds .pairs .values))
+  check-then-between a b r k e =
+      k ∙ accepted-between editions bytes (check-holds .opened) (check-holds .pairs) (check-holds .is-opened) (check-holds .is-accepted) e a b
+
+  pub check-then-other : (a b : ℤ) (r : Between) → betweenOf r ≡ firstBetween bytes a b → (check-holds .opened .head .edition ≡ runs → ⊥)
+      → betweenOf r ≡ refused EDITION 0
+  check-then-other a b r k e = k ∙ other-between editions bytes (check-holds .opened) (check-holds .is-opened) e a b
 
 -- ---- at most 12 probes are told, on any bytes
 

@@ -11,15 +11,17 @@ ghost use Rattle.format.specs.LookUp.{stepProbes, lookUp, lookUpProbes, lookUpI
 ghost use Rattle.format.specs.Walk.{FewWords};
 ghost use Rattle.format.specs.Page.{placeKind, placeOrdinal, placeValue, page, pageReply, pageAfter};
 ghost use Rattle.format.specs.Next.{next, nextIn, lastAfter};
+ghost use Rattle.format.specs.FirstBetween.{firstBetween, firstBetweenIn};
 ghost use Rattle.format.specs.Layered.{lookUpLayered, lookUpLayeredIn, layeredPart, IsPart};
 ghost use Rattle.format.specs.SetBytes.{setWrite};
 ghost use Rattle.format.specs.SetCalls.{setCheck, setFind};
 ghost use Rattle.format.specs.Judge.{judgeSection};
-ghost use Rattle.format.specs.Replies.{replyOf, answerOf, candidateOf, memberOf, Probed, orderOf, judgementOf};
+ghost use Rattle.format.specs.Replies.{replyOf, answerOf, candidateOf, betweenOf, memberOf, Probed, orderOf, judgementOf};
 ghost use Rattle.column.specs.Opened.{columnOf};
 ghost use Rattle.layered.specs.Answers.{layeredOf, partOf};
 use column::Column;
 use format::Answer;
+use format::Between;
 use format::ByteOrder;
 use format::Cursor;
 use format::Judgement;
@@ -29,7 +31,7 @@ use format::Reply;
 use layered::Layered;
 use layered::Part;
 
-// Writes the column of the pairs (ids, values) in edition 1 or 2, by its number, at rank power `power` into `out` and hands back its byte
+// Writes the column of the pairs (ids, values) in edition 1, 2 or 3, by its number, at rank power `power` into `out` and hands back its byte
 // count. Refusals 1, 9, 2 to 4 and 6 in order, each over the whole input before the next; a refusal changes nothing, and success exactly
 // the column's bytes.
 pub fn write(ids: &[u32], values: &[i64], edition: u32, power: u32, out: &mut [u8]) -> Reply
@@ -129,6 +131,23 @@ pub fn next_in(column: Column, cursor: Cursor, bytes: &[u8], target: u32) -> Nex
     ensures cursor { λ r. ⌜ r .cursor .last ≡ lastAfter (nextIn (now (bytes .entry)) (columnOf column) (cursor .last) target) (cursor .last) target ⌝ }
 {
     next::next_in(column, cursor, bytes, target)
+}
+
+// The first ordinal with a value from `low` to `high`, or that there is none, in a column of edition 3 (document 02, [11]). Refusals 7 to
+// 11, of which 9 for any other edition, then 15; low above high gives none. A run of values whose summary shows that it holds none is not
+// read.
+pub fn first_between(bytes: &[u8], low: i64, high: i64) -> Between
+    ensures { λ r. ⌜ betweenOf r ≡ firstBetween (now (bytes .entry)) low high ⌝ }
+{
+    between::first_between(bytes, low, high)
+}
+
+// The same from a column that `Column::open` gave for these bytes, without reading the header again. Any other numbers in its place are
+// safe: 9 for another edition, 10 where they break a header rule, 11 where they do not fit these bytes, then 15.
+pub fn first_between_in(column: Column, bytes: &[u8], low: i64, high: i64) -> Between
+    ensures { λ r. ⌜ betweenOf r ≡ firstBetweenIn (now (bytes .entry)) (columnOf column) low high ⌝ }
+{
+    between::first_between_in(column, bytes, low, high)
 }
 
 // ---- a correction column on top of a machine column (document 02, [10])

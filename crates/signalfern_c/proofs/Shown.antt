@@ -1,17 +1,19 @@
 -- What crosses the boundary, by the cases of the library's enums. Assumes nothing.
-use Rattle.format.specs.Kit.{_≡_, sym, ap, ap₂, _∙_, false, and-false, List, none, ℕ, _+_, _<_, arith, leb, pos}
+use Rattle.format.specs.Kit.{_≡_, sym, ap, ap₂, _∙_, false, and-false, List, none, ℕ, _+_, _<_, arith, leb, ℤ, pos}
 use Rattle.format.specs.Limits.{maxId, maxWidth}
-use Rattle.format.specs.Refusals.{refused, need, HEADER, ID, BACK}
-use Rattle.format.specs.Editions.{plain, editions, editionIn}
+use Rattle.format.specs.Refusals.{refused, need, EDITION, HEADER, ID, BACK}
+use Rattle.format.specs.Editions.{plain, numberOf, editions, editionIn}
 use Rattle.format.specs.Column.{Head}
 use Rattle.format.specs.Opening.{headOk}
 use Rattle.format.specs.LookUp.{lookUpIn}
 use Rattle.format.specs.Next.{nextIn}
-use Rattle.format.specs.Replies.{refusalNumber, refusalWith, replyOf, answerOf, candidateOf}
+use Rattle.format.specs.FirstBetween.{firstBetweenIn}
+use Rattle.format.specs.Replies.{refusalNumber, refusalWith, replyOf, answerOf, candidateOf, betweenOf}
 use Rattle.format.specs.declared.Refusal.{Refusal}
 use Rattle.format.specs.declared.Reply.{Reply}
 use Rattle.format.specs.declared.Answer.{Answer}
 use Rattle.format.specs.declared.Candidate.{Candidate}
+use Rattle.format.specs.declared.Between.{Between}
 use Rattle.format.proofs.Editions.{wide}
 use Rattle.column.specs.Opened.{openedOf}
 use Rattle.column.specs.declared.Opening.{Opening}
@@ -19,12 +21,17 @@ use Rattle.signalfern_c.specs.declared.CReply.{CReply}
 use Rattle.signalfern_c.specs.declared.CAnswer.{CAnswer}
 use Rattle.signalfern_c.specs.declared.CColumn.{CColumn}
 use Rattle.signalfern_c.specs.declared.CCandidate.{CCandidate}
-use Rattle.signalfern_c.specs.Boundary.{replyC, answerC, columnC, openedAs, openedC, candidateC}
+use Rattle.signalfern_c.specs.declared.ranges.CBetween.{CBetween}
+use Rattle.signalfern_c.specs.Boundary.{replyC, answerC, columnC, openedAs, openedC, candidateC, betweenC}
 
 module _ (why : Refusal) (a b : ℕ) (ea : a ≡ refusalNumber why) (eb : b ≡ refusalWith why) where
   pub refused-reply : (r : Reply) → r ≡ Reply.Refused why → _≡_ {A = CReply} (record { refusal = a; number = b }) (replyC (replyOf r))
   refused-reply r e =
       ap₂ {C = CReply} (λ (x y : ℕ). record { refusal = x; number = y }) ea eb ∙ ap (λ (x : Reply). replyC (replyOf x)) (sym e)
+
+  pub refused-between : (r : Between) → r ≡ Between.Refused why → _≡_ {A = CBetween} (record { kind = a; number = b; ordinal = 0 }) (betweenC (betweenOf r))
+  refused-between r e =
+      ap₂ {C = CBetween} (λ (x y : ℕ). record { kind = x; number = y; ordinal = 0 }) ea eb ∙ ap (λ (x : Between). betweenC (betweenOf x)) (sym e)
 
   pub refused-answer : (r : Answer) (n : ℕ) → r ≡ Answer.Refused why
       → _≡_ {A = CAnswer} (record { kind = a; number = b; ordinal = 0; value = pos 0; words = 0; probes = 0 }) (answerC n (answerOf r))
@@ -91,3 +98,9 @@ pub no-edition-next : (bytes : List ℕ) (c : CColumn) (last t : ℕ) → editio
     → nextIn bytes (openedC c) last t ≡ need (leb t maxId) ID 0 (need (leb last t) BACK 0 (refused HEADER 0))
 unfolding nextIn need
 no-edition-next bytes c last t e = rw (e, too-wide (openedAs plain (maxWidth + 1) c .head) (omega arith))
+
+-- the question is for edition 3 alone, and refuses such a column as any other
+pub no-edition-between : (bytes : List ℕ) (c : CColumn) (a b : ℤ) → editionIn editions (c .edition) ≡ none
+    → firstBetweenIn bytes (openedC c) a b ≡ refused EDITION 0
+unfolding firstBetweenIn need numberOf
+no-edition-between bytes c a b e = rw e

@@ -12,6 +12,7 @@ use Rattle.signalfern_c.specs.declared.CAnswer.{CAnswer}
 use Rattle.signalfern_c.specs.declared.CColumn.{CColumn}
 use Rattle.signalfern_c.specs.declared.CCandidate.{CCandidate}
 use Rattle.signalfern_c.specs.declared.pages.CPage.{CPage}
+use Rattle.signalfern_c.specs.declared.ranges.CBetween.{CBetween}
 
 -- refusal 0: the byte count or n; otherwise the refusal's number and the number with it
 abbrev pub replyC : Outcome ℕ → CReply
@@ -99,3 +100,11 @@ toldC o last t = candidateC o (lastAfter o last t)
 abbrev pub pageC : ℕ → Outcome ℕ → CPage
 pageC n (done w) = record { refusal = 0; number = n; words = w }
 pageC n (refused why w) = record { refusal = why; number = w; words = 0 }
+
+-- ---- document 02, [11]
+
+-- kind 0 found, 1 none, otherwise the refusal's number
+abbrev pub betweenC : Outcome (Option ℕ) → CBetween
+betweenC (done (some i)) = record { kind = 0; number = 0; ordinal = i }
+betweenC (done none) = record { kind = 1; number = 0; ordinal = 0 }
+betweenC (refused why w) = record { kind = why; number = w; ordinal = 0 }

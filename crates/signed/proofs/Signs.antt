@@ -30,6 +30,14 @@ biased-unbiased x = by (decLt x (2 ^ 63))
     by (yes h) = rw (un-low x h) (omega arith)
     by (no f) = let h : 2 ^ 63 ≤ x = omega arith in rw (un-high x h) (omega arith)
 
+-- a form of 64 bits is that of a number of 64 bits
+pub unbiased-size : (x : ℕ) → x < 2 ^ 64 → mag (unbiased x) < 2 ^ 63
+unbiased-size x h = by (decLt x (2 ^ 63))
+  where
+    by : Dec (x < 2 ^ 63) → mag (unbiased x) < 2 ^ 63
+    by (yes l) = rw (un-low x l) (omega arith)
+    by (no f) = let l : 2 ^ 63 ≤ x = omega arith in rw (un-high x l) (omega arith)
+
 -- a difference of whole numbers, by their order
 sub-yes : (a b : ℕ) → a < b → subℕ a b ≡ negsuc (b - suc a)
 sub-yes a b h = rw (lt-ltb a b)

@@ -1,5 +1,6 @@
 // Signed numbers as numbers without sign. `biased` and `unbiased` alone compute with signed numbers.
 ghost use mathlib.Core.Path.{_≡_};
+ghost use Rattle.format.specs.Bytes.{twos, untwos};
 ghost use Rattle.format.specs.HeaderNumbers.{zigzag, unzigzag};
 ghost use Rattle.signed.specs.Sign.{biased, unbiased};
 
@@ -50,4 +51,11 @@ pub fn number_of(b: u64) -> u64
     } else {
         (b - HALF) * 2
     }
+}
+
+// The biased form of a number in two's complement, and the other way round: they are 2^63 apart, modulo 2^64.
+pub fn turned(x: u64) -> u64
+    ensures { λ r. ⌜ (r ≡ biased (untwos x)) × (r ≡ twos (unbiased x)) ⌝ }
+{
+    if x < HALF { x + HALF } else { x - HALF }
 }

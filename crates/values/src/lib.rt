@@ -8,16 +8,14 @@ ghost use lib.IntN.{ℤ};
 ghost use lib.ListN.{length, drop};
 ghost use Rattle.format.specs.Limits.{maxCount, maxWidth};
 ghost use Rattle.format.specs.Pairs.{Each, Fits};
-ghost use Rattle.format.specs.HeaderNumbers.{unzigzag};
-ghost use Rattle.format.specs.Values.{valueAt};
-ghost use Rattle.format.specs.Codec.{signed64, scaled};
 ghost use Rattle.format.specs.Editions.{codec};
 ghost use Rattle.format.specs.Check.{allValues};
-ghost use Rattle.packings.specs.Packings.{packingOf};
-ghost use Rattle.values.specs.Edition.{editionOf, fieldsOf, fetchedOf, tests};
+ghost use Rattle.scaled_values.specs.Slots.{Stands, slotNumber, slotValue};
+ghost use Rattle.values.specs.Edition.{editionOf, orderOf, SlotOf, fieldsOf, fetchedOf, tests};
 pub use format::Fetched;
 pub use format::Fields;
 use packings::Order;
+use scaled_values::Slotted;
 
 // The editions of a column.
 pub enum Edition {
@@ -25,6 +23,8 @@ pub enum Edition {
     Plain,
     // Lucene 9's packing, edition 2 (document 02, [6]).
     Lucene,
+    // Runs of values with a summary each, edition 3 (document 02, [11]).
+    Runs,
 }
 
 // Whether the header's fields, and v as the value section's length, keep the header rules on the n values.
@@ -35,6 +35,7 @@ pub fn rules(edition: Edition, n: u64, fields: Fields, v: u64) -> bool
     match edition {
         Edition::Plain => scaled_values::rules(Order::High, n, fields, v),
         Edition::Lucene => scaled_values::rules(Order::Low, n, fields, v),
+        Edition::Runs => run_values::rules(n, fields, v),
     }
 }
 
@@ -47,17 +48,19 @@ pub fn plan(edition: Edition, values: &[i64]) -> Fields
     match edition {
         Edition::Plain => scaled_values::plan(Order::High, values),
         Edition::Lucene => scaled_values::plan(Order::Low, values),
+        Edition::Runs => run_values::plan(values),
     }
 }
 
 // The value section's length, by the fields that were planned.
 pub fn length(edition: Edition, values: &[i64], fields: Fields) -> u64
     requires { ⌜ (fieldsOf fields ≡ codec (editionOf edition) .fields (now values)) × Each Fits (now values) × (length (now values) ≤ maxCount) ⌝ }
-    ensures { λ r. ⌜ (r ≡ length (codec (editionOf edition) .section (now (values .entry)))) × (r ≤ 8 * length (now (values .entry))) ⌝ }
+    ensures { λ r. ⌜ (r ≡ length (codec (editionOf edition) .section (now (values .entry)))) × (r ≤ 33 * length (now (values .entry))) ⌝ }
 {
     match edition {
         Edition::Plain => scaled_values::length(Order::High, values, fields),
         Edition::Lucene => scaled_values::length(Order::Low, values, fields),
+        Edition::Runs => run_values::length(values, fields),
     }
 }
 
@@ -71,42 +74,50 @@ pub fn put(out: &mut [u8], edition: Edition, values: &[i64], fields: Fields)
     match edition {
         Edition::Plain => scaled_values::put(out, Order::High, values, fields),
         Edition::Lucene => scaled_values::put(out, Order::Low, values, fields),
+        Edition::Runs => run_values::put(out, values, fields),
     }
 }
 
 // ---- reading: a section that keeps the header rules
 
-// The packing of an edition whose values have one smallest value, divisor and width.
+// The packing of an edition's numbers.
 fn order_of(edition: Edition) -> Order
-    ensures { λ r. ⌜ codec (editionOf edition) ≡ scaled (packingOf r) ⌝ }
+    ensures { λ r. ⌜ r ≡ orderOf (editionOf edition) ⌝ }
 {
     match edition {
         Edition::Plain => Order::High,
         Edition::Lucene => Order::Low,
+        Edition::Runs => Order::High,
     }
 }
 
-// Step 7: the number stored for ordinal i, of n. What it stands for is `value_of`'s: as two calls both are compiled into the look-up, the next
-// candidate and the page.
-pub fn stored_at(section: &[u8], edition: Edition, n: u64, fields: Fields, i: u64) -> u64
+// Step 7, in three calls that are compiled into the look-up, the next candidate and the page: where the number stored for ordinal i, of n,
+// stands,
+pub fn slot_of(section: &[u8], edition: Edition, n: u64, fields: Fields, i: u64) -> Slotted
     requires { ⌜ (n ≤ maxCount) × (codec (editionOf edition) .fieldsOk n (fieldsOf fields) (length (now section)) ≡ true) × (i < n) ⌝ }
-    ensures { λ r. ⌜ (0 < fields .divisor) × (codec (editionOf edition) .value n (fieldsOf fields) (now (section .entry)) i
-        ≡ signed64 (valueAt (unzigzag (fields .smallest)) (fields .divisor) r)) ⌝ }
+    ensures { λ r. ⌜ SlotOf (editionOf edition) n (fieldsOf fields) (now (section .entry)) i r ⌝ }
 {
-    packings::fetch(
-        section,
-        order_of(edition),
-        fields.width as usize,
-        i as usize,
-    ).number
+    match edition {
+        Edition::Plain => scaled_values::whole(fields.width, fields.smallest, i),
+        Edition::Lucene => scaled_values::whole(fields.width, fields.smallest, i),
+        Edition::Runs => run_values::slot_at(section, n, i),
+    }
 }
 
-// And its value, which must fit in 64 bits.
-pub fn value_of(fields: Fields, stored: u64) -> Fetched
-    requires { ⌜ 0 < fields .divisor ⌝ }
-    ensures { λ r. ⌜ fetchedOf r ≡ signed64 (valueAt (unzigzag (fields .smallest)) (fields .divisor) stored) ⌝ }
+// the number there,
+pub fn number_in(section: &[u8], edition: Edition, slot: Slotted) -> u64
+    requires { ⌜ Stands (orderOf (editionOf edition)) (now section) slot ⌝ }
+    ensures { λ r. ⌜ r ≡ slotNumber (orderOf (editionOf edition)) (now (section .entry)) slot ⌝ }
 {
-    scaling::value_of(fields.smallest, fields.divisor, stored)
+    scaled_values::number_in(section, order_of(edition), slot)
+}
+
+// and its value, which must fit in 64 bits.
+pub fn value_of(fields: Fields, slot: Slotted, stored: u64) -> Fetched
+    requires { ⌜ 0 < fields .divisor ⌝ }
+    ensures { λ r. ⌜ fetchedOf r ≡ slotValue (fields .divisor) slot stored ⌝ }
+{
+    scaled_values::value_of(fields.divisor, slot, stored)
 }
 
 // Whether the section is that of its n values, and the fields are theirs.
@@ -117,6 +128,7 @@ pub fn check(section: &[u8], edition: Edition, n: u64, fields: Fields) -> bool
     match edition {
         Edition::Plain => scaled_check::values_ok(section, Order::High, n, fields),
         Edition::Lucene => scaled_check::values_ok(section, Order::Low, n, fields),
+        Edition::Runs => run_check::values_ok(section, n, fields),
     }
 }
 
@@ -130,5 +142,6 @@ pub fn fill(values: &mut [i64], section: &[u8], edition: Edition, n: u64, fields
     match edition {
         Edition::Plain => scaled_reader::fill(values, section, Order::High, n as usize, fields),
         Edition::Lucene => scaled_reader::fill(values, section, Order::Low, n as usize, fields),
+        Edition::Runs => run_reader::fill(values, section, n as usize, fields),
     }
 }

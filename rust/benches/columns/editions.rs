@@ -36,14 +36,14 @@ pub fn table(effort: &Effort) -> Table {
     table
 }
 
-/// Edition 2, then edition 1.
-type Sides = [Input; 2];
+/// The same list in two editions, of which the second is 1.
+pub type Sides = [Input; 2];
 
 fn opened(side: &Input) -> Column<'_> {
     Column::open(&side.bytes).expect("a sound column")
 }
 
-fn write([two, one]: &Sides, runs: usize) -> Measured {
+pub fn write([two, one]: &Sides, runs: usize) -> Measured {
     let mut outs = [two, one].map(|side| vec![1; side.bytes.len()]);
     let write = |side: &Input, out: &mut [u8]| {
         let written = signalfern::write(&side.ids, &side.values, side.edition, 9, out);
@@ -59,7 +59,7 @@ fn write([two, one]: &Sides, runs: usize) -> Measured {
     measured
 }
 
-fn check([two, one]: &Sides, runs: usize) -> Measured {
+pub fn check([two, one]: &Sides, runs: usize) -> Measured {
     Measured::of(
         runs,
         &mut (),
@@ -68,7 +68,7 @@ fn check([two, one]: &Sides, runs: usize) -> Measured {
     )
 }
 
-fn read([two, one]: &Sides, runs: usize) -> Measured {
+pub fn read([two, one]: &Sides, runs: usize) -> Measured {
     let pairs = two.ids.len();
     let (mut ids, mut values) = (vec![1; pairs], vec![1; pairs]);
     Measured::of(
@@ -79,7 +79,7 @@ fn read([two, one]: &Sides, runs: usize) -> Measured {
     )
 }
 
-fn by_bytes([two, one]: &Sides, ids: &[u32], runs: usize) -> Measured {
+pub fn by_bytes([two, one]: &Sides, ids: &[u32], runs: usize) -> Measured {
     let [two, one] = [&two.bytes, &one.bytes];
     assert!((ids.iter())
         .all(|&id| { value(signalfern::look_up(two, id)) == value(signalfern::look_up(one, id)) }));
@@ -91,7 +91,7 @@ fn by_bytes([two, one]: &Sides, ids: &[u32], runs: usize) -> Measured {
     )
 }
 
-fn by_column([two, one]: &Sides, ids: &[u32], runs: usize) -> Measured {
+pub fn by_column([two, one]: &Sides, ids: &[u32], runs: usize) -> Measured {
     let [two, one] = [opened(two), opened(one)];
     Measured::of(
         runs,

@@ -1,6 +1,6 @@
 //! Columns to measure on, and ids to ask them for.
 
-use signalfern::Edition;
+use signalfern::{Edition, RUN_LENGTH};
 
 /// Look-ups in one run.
 pub const LOOK_UPS: usize = 1_000;
@@ -145,6 +145,9 @@ pub enum Values {
     LastBeside { step: i64 },
     /// The smallest and the greatest value by turns: divisor 2^64 - 1.
     Extremes,
+    /// Even ones from 0 to 14, and an odd one above 2^60 in each sixth run of edition 3, a greater one
+    /// each time.
+    TinyAndHuge,
 }
 
 impl Values {
@@ -180,6 +183,15 @@ impl Values {
             Self::Extremes => (0..count)
                 .map(|index| [i64::MIN, i64::MAX][index % 2])
                 .collect(),
+            Self::TinyAndHuge => {
+                let mut values: Vec<i64> =
+                    (0..count).map(|_| (random.next() % 8) as i64 * 2).collect();
+                let huge = values.iter_mut().skip(7 * RUN_LENGTH / 2);
+                for (value, more) in huge.step_by(6 * RUN_LENGTH).zip(0..) {
+                    *value = (1 << 60) + 2 * more + 1;
+                }
+                values
+            }
         }
     }
 }

@@ -13,6 +13,7 @@ mod next;
 mod options;
 mod page;
 mod plot;
+mod runs;
 
 use std::process::ExitCode;
 
@@ -50,6 +51,7 @@ fn run(options: &Options) -> Result<(), String> {
         Rows::Layered => layered::table(effort),
         Rows::Pages => page::table(effort),
         Rows::Editions => editions::table(effort),
+        Rows::Runs => runs::table(effort),
     };
     table.print(options.before.as_ref());
     let mut times = Times::default();

@@ -49,6 +49,8 @@ pub enum Rows {
     Pages,
     /// Edition 2 beside edition 1, at each width.
     Editions,
+    /// Edition 3 beside edition 1, and the search for a value beside a scan.
+    Runs,
 }
 
 /// What stood on the command line.
@@ -86,6 +88,7 @@ impl Options {
                 "--layered" => options.rows = Rows::Layered,
                 "--pages" => options.rows = Rows::Pages,
                 "--editions" => options.rows = Rows::Editions,
+                "--runs" => options.rows = Rows::Runs,
                 "--plot" => options.plot = Some(value()?.into()),
                 "--save" => options.save = Some(value()?.into()),
                 "--beside" => options.before = Some(Times::read(value()?.as_ref())?),
@@ -97,7 +100,7 @@ impl Options {
 }
 
 const USAGE: &str = "cargo bench --bench columns -- [--widths | --divisors | --counts | --next | \
---layered | --pages | --editions | --plot FILE.svg] [--save FILE] [--beside FILE]
+--layered | --pages | --editions | --runs | --plot FILE.svg] [--save FILE] [--beside FILE]
   --widths       the calls at each width of stored numbers in place of each kind of block
   --divisors     the calls on values with large and small divisors
   --counts       look-ups alone, in blocks of few ids to many
@@ -105,5 +108,6 @@ const USAGE: &str = "cargo bench --bench columns -- [--widths | --divisors | --c
   --layered      the look-up with a correction on top, beside the look-ups that it is made of
   --pages        a page of ids in one call, beside look-ups by an opened column and the reference's page
   --editions     the calls on columns of edition 2, beside edition 1's of the same pairs, at each width
+  --runs         bytes a pair and the calls of edition 3, beside edition 1; the search for a value, beside a scan
   --plot FILE    how look-up, check and reading grow with the pairs and with the bytes, drawn
   --save FILE    keep the times; --beside FILE sets such times, of another revision, beside these";

@@ -1,6 +1,6 @@
 //! The header: nine numbers in groups of seven bits.
 
-use crate::values::{self, Edition};
+use crate::values::Edition;
 use crate::{power_allowed, Refusal, MAX_COUNT, MAX_JUMPS};
 
 /// The longest header: nine numbers of ten bytes.
@@ -61,13 +61,12 @@ impl Column {
 
     /// "Header rules".
     fn keeps_the_rules(&self) -> bool {
-        Edition::numbered(self.edition).is_some_and(|edition| edition.allows(self.width))
-            && self.count <= MAX_COUNT
+        self.count <= MAX_COUNT
             && power_allowed(self.power)
             && self.jump_count <= MAX_JUMPS
             && self.divisor >= 1
             && self.id_bytes >= 6 + 8 * self.jump_count
-            && self.value_bytes == values::section_bytes(self.count, self.width)
+            && Edition::numbered(self.edition).is_some_and(|it| it.keeps_the_rules(self))
     }
 
     /// Whether header + L + V is the byte count; the sum can pass 2^64.
@@ -190,11 +189,12 @@ mod tests {
 
     #[test]
     fn the_edition_comes_before_the_second_number() {
-        for edition in [0, 3, 4, 5, 0x7F] {
+        for edition in [0, 4, 5, 0x7F] {
             assert_eq!(open(&[edition, 0x80, 0]), Err(Refusal::EDITION));
         }
-        assert_eq!(open(&[2, 0x80, 0]), Err(Refusal::bad_number(2)));
-        assert_eq!(open(&[1, 0x80, 0]), Err(Refusal::bad_number(2)));
+        for edition in [1, 2, 3] {
+            assert_eq!(open(&[edition, 0x80, 0]), Err(Refusal::bad_number(2)));
+        }
         assert_eq!(open(&[0x81, 0, 0x80, 0]), Err(Refusal::bad_number(1)));
     }
 }

@@ -13,6 +13,7 @@ mod look_up;
 mod lucene;
 mod next;
 mod page;
+mod runs;
 mod set;
 mod sparse;
 mod values;
@@ -25,6 +26,7 @@ pub use layered::{
 pub use look_up::{look_up, look_up_in};
 pub use next::{next, next_by_each_id, next_in, next_listed, Candidate, Next};
 pub use page::look_up_page;
+pub use runs::{first_between, first_between_in, Between};
 pub use set::{set_check, set_find, set_write};
 pub use sparse::{halve, scan};
 
@@ -142,13 +144,13 @@ pub fn write(
     if ids.len() != values.len() {
         return Err(Refusal::LENGTHS);
     }
-    let packing = values::Edition::numbered(edition.into()).ok_or(Refusal::EDITION)?;
+    let stored_as = values::Edition::numbered(edition.into()).ok_or(Refusal::EDITION)?;
     if !power_allowed(u64::from(power)) {
         return Err(Refusal::POWER);
     }
     in_order_and_range(ids)?;
     let layout = ids::Layout::of(ids, power);
-    let plan = values::Plan::of(values, packing);
+    let plan = values::Plan::of(values, stored_as);
     let column = Column {
         edition: u64::from(edition),
         count: ids.len() as u64,
@@ -158,7 +160,7 @@ pub fn write(
         width: u64::from(plan.width),
         smallest_number: header::zigzag(plan.smallest),
         divisor: plan.divisor,
-        value_bytes: values::section_bytes(ids.len() as u64, u64::from(plan.width)),
+        value_bytes: plan.value_bytes,
         start: 0,
     };
     let (head, head_len) = column.encode();

@@ -2,7 +2,7 @@
 
 use crate::ids::{data_bytes, rank_bytes, short, Kind};
 use crate::sparse::{halve, scan};
-use crate::values::{stored, value_of};
+use crate::values::value_at;
 use crate::{open, Answer, Column, Refusal, MAX_ID};
 
 /// Looks one id up.
@@ -130,8 +130,7 @@ impl<'a> Block<'a> {
             return Err(Refusal::BROKEN);
         }
         let ordinal = self.ordinal + inner as u64;
-        let stored = stored(column, values, ordinal as usize);
-        let value = value_of(column, stored).ok_or(Refusal::BROKEN)?;
+        let value = value_at(column, values, ordinal as usize).ok_or(Refusal::BROKEN)?;
         Ok((ordinal, value))
     }
 }

@@ -7,6 +7,7 @@ mod judge;
 mod layered;
 mod next;
 mod page;
+mod runs;
 mod set;
 
 use std::collections::BTreeMap;
@@ -26,7 +27,7 @@ fn put_low_first(out: &mut Vec<u8>, number: usize, bytes: usize) {
 }
 
 /// The numbers of the editions.
-const EDITIONS: [u32; 2] = [1, 2];
+const EDITIONS: [u32; 3] = [1, 2, 3];
 
 /// The documents' rules one by one, with no thought of speed.
 fn plain_column(pairs: &BTreeMap<u32, i64>, edition: u32, power: u32) -> Vec<u8> {
@@ -77,27 +78,13 @@ fn plain_column(pairs: &BTreeMap<u32, i64>, edition: u32, power: u32) -> Vec<u8>
         let differences = exact.iter().map(|v| (v - exact[0]).unsigned_abs());
         divisor = differences.fold(0, plain_gcd);
     }
-    let spread = (greatest - smallest) as u128 / divisor;
-    let mut widths: Vec<usize> = (0..=64).collect();
-    if edition == 2 {
-        widths = vec![0, 1, 2, 4, 8, 12, 16, 20, 24, 28, 32, 40, 48, 56, 64];
-    }
-    let suffices = |&w: &usize| spread < 1 << w;
-    let width = widths.into_iter().find(suffices).expect("64 is enough");
-    let mut bits = Vec::new();
-    for v in exact {
-        let stored = (v - smallest) as u128 / divisor;
-        let low_first = (0..width).map(|bit| stored >> bit & 1 == 1);
-        match edition {
-            1 => bits.extend(low_first.rev()),
-            _ => bits.extend(low_first),
+    let (smallest, width, packed) = match edition {
+        3 => (0, 0, plain_runs(&exact, divisor)),
+        _ => {
+            let (width, packed) = plain_packed(&exact, divisor, edition);
+            (smallest, width, packed)
         }
-    }
-    let mut packed = vec![0u8; bits.len().div_ceil(8)];
-    for (j, _) in bits.iter().enumerate().filter(|(_, &bit)| bit) {
-        packed[j / 8] |= 1 << if edition == 1 { 7 - j % 8 } else { j % 8 };
-    }
-
+    };
     let least = if smallest >= 0 {
         2 * smallest
     } else {
@@ -120,6 +107,48 @@ fn plain_column(pairs: &BTreeMap<u32, i64>, edition: u32, power: u32) -> Vec<u8>
     out.extend(section);
     out.extend(packed);
     out
+}
+
+/// The width of these values, and their bits in bytes.
+fn plain_packed(exact: &[i128], divisor: u128, edition: u32) -> (usize, Vec<u8>) {
+    let smallest = exact.iter().copied().min().unwrap_or(0);
+    let greatest = exact.iter().copied().max().unwrap_or(0);
+    let spread = (greatest - smallest) as u128 / divisor;
+    let mut widths: Vec<usize> = (0..=64).collect();
+    if edition == 2 {
+        widths = vec![0, 1, 2, 4, 8, 12, 16, 20, 24, 28, 32, 40, 48, 56, 64];
+    }
+    let suffices = |&w: &usize| spread < 1 << w;
+    let width = widths.into_iter().find(suffices).expect("64 is enough");
+    let mut bits = Vec::new();
+    for v in exact {
+        let stored = (v - smallest) as u128 / divisor;
+        let low_first = (0..width).map(|bit| stored >> bit & 1 == 1);
+        match edition {
+            2 => bits.extend(low_first),
+            _ => bits.extend(low_first.rev()),
+        }
+    }
+    let mut packed = vec![0u8; bits.len().div_ceil(8)];
+    for (j, _) in bits.iter().enumerate().filter(|(_, &bit)| bit) {
+        packed[j / 8] |= 1 << if edition == 2 { j % 8 } else { 7 - j % 8 };
+    }
+    (width, packed)
+}
+
+/// The value section of edition 3: the directory, and then the runs' bytes.
+fn plain_runs(exact: &[i128], divisor: u128) -> Vec<u8> {
+    let (mut directory, mut runs) = (Vec::new(), Vec::new());
+    for run in exact.chunks(16384) {
+        let (width, packed) = plain_packed(run, divisor, 3);
+        // Two's complement: the eight low bytes of a number that is exact.
+        directory.extend(&run.iter().min().unwrap().to_le_bytes()[..8]);
+        directory.extend(&run.iter().max().unwrap().to_le_bytes()[..8]);
+        put_low_first(&mut directory, runs.len(), 8);
+        directory.push(width as u8);
+        runs.extend(packed);
+    }
+    [directory, runs].concat()
 }
 
 fn plain_gcd(a: u128, b: u128) -> u128 {
@@ -241,7 +270,7 @@ fn looks_up_what_the_list_holds() {
     for round in 0..30 {
         let pairs = some_pairs(&mut random);
         let power = [0, 7, 9, 12, 15][round % 5];
-        let column = plain_column(&pairs, EDITIONS[round % 2], power);
+        let column = plain_column(&pairs, EDITIONS[round % 3], power);
         let opened = open(&column).expect("a written column opens");
         let listed: Vec<u32> = pairs.keys().copied().collect();
         for _ in 0..500 {

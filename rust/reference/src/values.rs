@@ -1,14 +1,17 @@
-//! The value section: smallest value, divisor, width, and the packed numbers.
+//! The value section: smallest value, divisor, width, and the packed numbers. That of edition 3 stands in
+//! `runs`.
 
-use crate::{lucene, Column, MAX_WIDTH};
+use crate::{lucene, runs, Column, MAX_WIDTH};
 
-/// The editions: they differ in the widths and in the order of the bits.
+/// The editions: they differ in the value section, and in what the header says of it.
 #[derive(Clone, Copy, PartialEq, Eq)]
 pub(crate) enum Edition {
     /// Document 01's.
     Plain,
     /// Document 02's, [6].
     Lucene,
+    /// Document 02's, [11].
+    Runs,
 }
 
 impl Edition {
@@ -16,25 +19,37 @@ impl Edition {
         match number {
             1 => Some(Self::Plain),
             2 => Some(Self::Lucene),
+            3 => Some(Self::Runs),
             _ => None,
         }
     }
 
-    /// Whether stored numbers may have this width.
-    pub fn allows(self, width: u64) -> bool {
+    /// The header rules on w, on the smallest value and on V; n is within its limit.
+    pub fn keeps_the_rules(self, column: &Column) -> bool {
+        let (count, width) = (column.count, column.width);
         match self {
-            Self::Plain => width <= MAX_WIDTH,
-            Self::Lucene => lucene::allows(width),
+            Self::Plain if width > MAX_WIDTH => false,
+            Self::Lucene if !lucene::allows(width) => false,
+            Self::Plain | Self::Lucene => column.value_bytes == section_bytes(count, width),
+            Self::Runs => {
+                let no_numbers = column.smallest_number == 0 && width == 0;
+                no_numbers && column.value_bytes >= runs::directory_bytes(count)
+            }
         }
     }
 
     /// The least width whose numbers go up to this one.
     fn width_for(self, most: u64) -> u32 {
         match self {
-            Self::Plain => 64 - most.leading_zeros(),
             Self::Lucene => lucene::width_for(most),
+            Self::Plain | Self::Runs => least_width(most),
         }
     }
+}
+
+/// The least width from 0 to 64 whose numbers go up to this one.
+pub(crate) fn least_width(most: u64) -> u32 {
+    64 - most.leading_zeros()
 }
 
 /// n times w over 8, rounded up.
@@ -42,65 +57,73 @@ pub(crate) fn section_bytes(count: u64, width: u64) -> u64 {
     (count * width).div_ceil(8)
 }
 
-/// How a list of values is stored.
+/// How a list of values is stored: the header's numbers of it, and the bytes of the section.
 pub(crate) struct Plan {
     pub smallest: i64,
     pub divisor: u64,
     pub width: u32,
+    pub value_bytes: u64,
     edition: Edition,
 }
 
 impl Plan {
     pub fn of(values: &[i64], edition: Edition) -> Self {
-        let smallest = values.iter().copied().min().unwrap_or(0);
-        let greatest = values.iter().copied().max().unwrap_or(0);
-        if smallest == greatest {
+        let divisor = divisor_of(values.iter().copied());
+        if edition == Edition::Runs {
+            // The runs have a smallest value and a width each, and the header none.
             return Self {
-                smallest,
-                divisor: 1,
+                smallest: 0,
+                divisor,
                 width: 0,
+                value_bytes: runs::value_bytes(values, divisor),
                 edition,
             };
         }
-        let divisor = divisor(values);
-        let most = greatest.abs_diff(smallest) / divisor;
+        let smallest = values.iter().copied().min().unwrap_or(0);
+        let greatest = values.iter().copied().max().unwrap_or(0);
+        let width = edition.width_for(greatest.abs_diff(smallest) / divisor);
         Self {
             smallest,
             divisor,
-            width: edition.width_for(most),
+            width,
+            value_bytes: section_bytes(values.len() as u64, width.into()),
             edition,
         }
     }
 
-    /// Packs the values; `out` has exactly their bytes.
+    /// Writes the section; `out` has exactly its bytes.
     pub fn write(&self, values: &[i64], out: &mut [u8]) {
-        if self.width == 0 {
-            return;
-        }
-        if self.edition == Edition::Lucene {
-            let stored = |value: &i64| value.abs_diff(self.smallest) / self.divisor;
-            lucene::pack(out, self.width, values.iter().map(stored));
-        } else if self.divisor == 1 {
-            pack(out, self.width, values, |v| v.abs_diff(self.smallest));
-        } else {
-            pack(out, self.width, values, |v| {
+        match self.edition {
+            Edition::Runs => runs::write(values, self.divisor, out),
+            _ if self.width == 0 => {}
+            Edition::Lucene => {
+                let stored = |value: &i64| value.abs_diff(self.smallest) / self.divisor;
+                lucene::pack(out, self.width, values.iter().map(stored));
+            }
+            Edition::Plain if self.divisor == 1 => {
+                pack(out, self.width, values, |v| v.abs_diff(self.smallest));
+            }
+            Edition::Plain => pack(out, self.width, values, |v| {
                 v.abs_diff(self.smallest) / self.divisor
-            });
+            }),
         }
     }
 }
 
-/// The greatest common divisor of each value's difference to the first value (document 02, [2]); 0
+/// g: the greatest common divisor of each value's difference to the first value (document 02, [2]); 1
 /// if all are equal. A difference without its sign is below 2^64, so none is too great.
-fn divisor(values: &[i64]) -> u64 {
+pub(crate) fn divisor_of(mut values: impl Iterator<Item = i64>) -> u64 {
+    let Some(first) = values.next() else {
+        return 1;
+    };
     let mut divisor = 0;
     for value in values {
-        divisor = gcd(divisor, value.abs_diff(values[0]));
+        divisor = gcd(divisor, value.abs_diff(first));
         if divisor == 1 {
             break;
         }
     }
-    divisor
+    divisor.max(1)
 }
 
 fn gcd(mut a: u64, mut b: u64) -> u64 {
@@ -111,7 +134,7 @@ fn gcd(mut a: u64, mut b: u64) -> u64 {
 }
 
 /// Stored numbers one after the other, high bit first; the spare bits of the last byte are 0.
-fn pack(out: &mut [u8], width: u32, values: &[i64], stored: impl Fn(i64) -> u64) {
+pub(crate) fn pack(out: &mut [u8], width: u32, values: &[i64], stored: impl Fn(i64) -> u64) {
     let mut words = out.chunks_mut(8);
     // The low `waiting` bits are not written yet: fewer than 64 before each value.
     let mut bits: u128 = 0;
@@ -132,9 +155,18 @@ fn pack(out: &mut [u8], width: u32, values: &[i64], stored: impl Fn(i64) -> u64)
     }
 }
 
-/// Stored number `i` of a column.
+/// The value of an ordinal below n, which step 7 takes. None is BROKEN.
 #[inline]
-pub(crate) fn stored(column: &Column, section: &[u8], i: usize) -> u64 {
+pub(crate) fn value_at(column: &Column, section: &[u8], ordinal: usize) -> Option<i64> {
+    match column.edition {
+        3 => runs::value_at(column, section, ordinal),
+        _ => value_of(column, stored(column, section, ordinal)),
+    }
+}
+
+/// Stored number `i` of a column of edition 1 or 2.
+#[inline]
+fn stored(column: &Column, section: &[u8], i: usize) -> u64 {
     let width = column.width as u32;
     match column.edition {
         2 => lucene::fetch(section, width, i),
@@ -144,7 +176,7 @@ pub(crate) fn stored(column: &Column, section: &[u8], i: usize) -> u64 {
 
 /// Stored number `i`, high bit first.
 #[inline]
-fn fetch(section: &[u8], width: u32, i: usize) -> u64 {
+pub(crate) fn fetch(section: &[u8], width: u32, i: usize) -> u64 {
     if width == 0 {
         return 0;
     }
@@ -163,15 +195,21 @@ fn fetch(section: &[u8], width: u32, i: usize) -> u64 {
     bits >> (64 - width)
 }
 
+fn value_of(column: &Column, stored: u64) -> Option<i64> {
+    sum(column.smallest(), column.divisor, stored)
+}
+
 /// smallest + g times the stored number, if it fits in a signed 64-bit number.
 #[inline]
-pub(crate) fn value_of(column: &Column, stored: u64) -> Option<i64> {
-    let offset = column.divisor.checked_mul(stored)?;
-    column.smallest().checked_add_unsigned(offset)
+pub(crate) fn sum(smallest: i64, divisor: u64, stored: u64) -> Option<i64> {
+    smallest.checked_add_unsigned(divisor.checked_mul(stored)?)
 }
 
 /// All values, of a section known to be sound.
 pub(crate) fn read(column: &Column, section: &[u8], values: &mut [i64]) {
+    if column.edition == 3 {
+        return runs::read(column, section, values);
+    }
     let smallest = column.smallest();
     if column.width == 0 {
         values.fill(smallest);
@@ -190,6 +228,9 @@ pub(crate) fn sound(column: &Column, section: &[u8]) -> bool {
     let Some(edition) = Edition::numbered(column.edition) else {
         return false;
     };
+    if edition == Edition::Runs {
+        return runs::sound(column, section);
+    }
     if width == 0 {
         // All values are equal, or there are none.
         return column.divisor == 1 && (count > 0 || column.smallest_number == 0);
@@ -199,8 +240,8 @@ pub(crate) fn sound(column: &Column, section: &[u8]) -> bool {
     }
     let spare = section.len() * 8 - count * width as usize;
     let spare_bits = match edition {
-        Edition::Plain => (1 << spare) - 1,
         Edition::Lucene => !(0xFF_u8 >> spare),
+        _ => (1 << spare) - 1,
     };
     let spare_clear = section.last().is_none_or(|last| last & spare_bits == 0);
     // A value that wraps is above the greatest one that fits: `value_of` tells below.

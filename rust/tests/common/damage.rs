@@ -35,6 +35,16 @@ impl Tally {
             }
         }
         pages::look_up_exactly(bytes, asked);
+        for (low, high) in RANGES {
+            let found = same::first_between(bytes, low, high);
+            self.count(found.err());
+            if let Ok(column) = opened {
+                assert_eq!(
+                    same::first_between_in(column.header(), bytes, low, high),
+                    found
+                );
+            }
+        }
     }
 
     pub fn count(&mut self, refusal: Option<Refusal>) {
@@ -48,6 +58,15 @@ impl Tally {
         }
     }
 }
+
+/// Ranges to search for: all values, some of the small columns', and none.
+const RANGES: [(i64, i64); 5] = [
+    (i64::MIN, i64::MAX),
+    (136, 149),
+    (-1, -1),
+    (1 << 30, i64::MAX),
+    (150, 135),
+];
 
 /// Columns of each edition.
 pub fn small_columns(random: &mut Random) -> Vec<Vec<u8>> {
@@ -65,7 +84,7 @@ pub fn small_columns(random: &mut Random) -> Vec<Vec<u8>> {
         let ids = few_ids(random, 8);
         let width = random.below(65) as u32;
         let values = values_of_width(random, ids.len(), width);
-        add(&ids, &values, EDITIONS[round % 2], random.pick(&POWERS));
+        add(&ids, &values, EDITIONS[round % 3], random.pick(&POWERS));
     }
     columns.retain(|column| column.len() < 400);
     columns
@@ -95,8 +114,9 @@ pub fn large_columns(random: &mut Random) -> Vec<Vec<u8>> {
     for blocks in lists {
         let ids = ids_of(random, blocks);
         let values = values_of_width(random, ids.len(), 3);
-        // Three bits in edition 1, four in edition 2.
-        for (edition, power) in EDITIONS.into_iter().zip([0, random.pick(&POWERS[1..])]) {
+        // Three bits in editions 1 and 3, four in edition 2.
+        let powers = [0, random.pick(&POWERS[1..]), random.pick(&POWERS)];
+        for (edition, power) in EDITIONS.into_iter().zip(powers) {
             columns.push(signalfern::write_to_vec(&ids, &values, edition, power).unwrap());
         }
     }

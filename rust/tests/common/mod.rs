@@ -7,6 +7,7 @@ pub mod layers;
 pub mod listed;
 pub mod pages;
 pub mod parts;
+pub mod runs;
 pub mod same;
 pub mod tool;
 
@@ -41,7 +42,10 @@ impl Random {
 }
 
 /// The editions.
-pub const EDITIONS: [Edition; 2] = [Edition::Plain, Edition::Lucene];
+pub const EDITIONS: [Edition; 3] = [Edition::Plain, Edition::Lucene, Edition::Runs];
+
+/// Those whose header has the width and the smallest value of all stored numbers.
+pub const PACKED: [Edition; 2] = [Edition::Plain, Edition::Lucene];
 
 /// The widths of edition 2 (document 02, [6]), without 0.
 pub const LUCENE_WIDTHS: [u32; 14] = [1, 2, 4, 8, 12, 16, 20, 24, 28, 32, 40, 48, 56, 64];

@@ -88,27 +88,45 @@ impl Parts {
         parts.bytes()
     }
 
-    /// The weights of bit j of the value section, as powers of two: in its byte, and in its number.
-    /// Edition 1 has the high bit first, edition 2 the low bit.
-    fn weights(&self, j: usize, width: usize) -> (usize, usize) {
+    /// Where the stored numbers start in the value section: edition 3 has its directory before them.
+    pub fn packed_at(&self) -> usize {
         match self.numbers[EDITION] {
-            1 => (7 - j % 8, width - 1 - j % width),
-            _ => (j % 8, j % width),
+            3 => 25 * self.numbers[COUNT].div_ceil(16_384) as usize,
+            _ => 0,
         }
     }
 
-    /// The stored numbers of a sound column, taken bit by bit.
+    /// The width of the stored numbers; in edition 3 that of the first run.
+    pub fn width(&self) -> usize {
+        match self.numbers[EDITION] {
+            3 => self.values.get(24).map_or(0, |&width| width.into()),
+            _ => self.numbers[WIDTH] as usize,
+        }
+    }
+
+    /// The weights of bit j of the stored numbers, as powers of two: in its byte, and in its number.
+    /// Edition 2 has the low bit first, the others the high bit.
+    fn weights(&self, j: usize, width: usize) -> (usize, usize) {
+        match self.numbers[EDITION] {
+            2 => (j % 8, j % width),
+            _ => (7 - j % 8, width - 1 - j % width),
+        }
+    }
+
+    /// The stored numbers of a sound column, taken bit by bit; in edition 3 of one run.
     pub fn stored(&self) -> Vec<u64> {
-        let (count, width) = (self.numbers[COUNT] as usize, self.numbers[WIDTH] as usize);
+        let (count, width) = (self.numbers[COUNT] as usize, self.width());
+        assert!(self.packed_at() <= 25, "more runs than one");
+        let packed = &self.values[self.packed_at()..];
         let mut stored = vec![0; count];
         for j in 0..count * width {
             let (in_byte, in_number) = self.weights(j, width);
-            stored[j / width] |= u64::from(self.values[j / 8] >> in_byte & 1) << in_number;
+            stored[j / width] |= u64::from(packed[j / 8] >> in_byte & 1) << in_number;
         }
         stored
     }
 
-    /// Puts other stored numbers, as many, at the least width that takes them.
+    /// Puts other stored numbers, as many, at the least width that takes them, in edition 1 or 2.
     pub fn store(&mut self, stored: &[u64]) {
         let most = stored.iter().fold(0, |most, &number| most.max(number));
         let bits = u64::BITS - most.leading_zeros();

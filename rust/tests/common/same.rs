@@ -245,6 +245,36 @@ pub fn next_in(
     result
 }
 
+/// Searches for a value by the bytes and, where they open, by the opened column.
+#[track_caller]
+pub fn first_between(bytes: &[u8], low: i64, high: i64) -> Result<Option<u64>, Refusal> {
+    let result = signalfern::first_between(bytes, low, high);
+    let expected = plain(reference::first_between(bytes, low, high));
+    assert_eq!(result.map_err(numbers), expected, "{low} to {high}");
+    if let Ok(column) = Column::open(bytes) {
+        assert_eq!(column.first_between(low, high), result, "{low} to {high}");
+    }
+    result
+}
+
+/// Searches for a value by any numbers in any bytes.
+#[track_caller]
+pub fn first_between_in(
+    header: Header,
+    bytes: &[u8],
+    low: i64,
+    high: i64,
+) -> Result<Option<u64>, Refusal> {
+    let result = header.first_between_in(bytes, low, high);
+    let expected = reference::first_between_in(&to_reference(header), bytes, low, high);
+    assert_eq!(
+        result.map_err(numbers),
+        plain(expected),
+        "{header:?}, {low} to {high}"
+    );
+    result
+}
+
 fn to_reference(header: Header) -> reference::Column {
     let smallest = i128::from(header.smallest);
     let smallest_number = if smallest < 0 {

@@ -14,9 +14,18 @@ returns-2 c = rw (c .match .keys2)
 
 returns-3 : tie.Need-returns-3
 unfolding numberOf editions editionIn
-returns-3 c =
+returns-3 c = rw (c .match .keys3)
+
+returns-4 : tie.Need-returns-4
+unfolding numberOf editions editionIn
+returns-4 c =
     let n = c .before .args .number in
-    rw (ne-eqb n 1 (λ e. omega (arith, c .match .rest, e)), ne-eqb n 2 (λ e. omega (arith, c .match .rest, e)))
+    rw (
+      ne-eqb n 1 (λ e. omega (arith, c .match .rest, e)),
+      ne-eqb n 2 (λ e. omega (arith, c .match .rest, e)),
+      ne-eqb n 3
+          (λ e. omega (arith, c .match .rest, e)),
+    )
 
 pub edition-in-spec : {M : Type 1} → statement M
-edition-in-spec = tie.close (tie.spec returns returns-2 returns-3)
+edition-in-spec = tie.close (tie.spec returns returns-2 returns-3 returns-4)

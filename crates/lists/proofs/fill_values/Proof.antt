@@ -7,10 +7,10 @@ use Rattle.lists.proofs.fill_values.Statement.{statement}
 use Rattle.lists.proofs.fill_values.Tie as tie
 
 abbrev Inv-loop : tie.InvT-loop
-Inv-loop values₀ signed₀ n v x₀ i₀ values signed x i = (length values ≡ length values₀) × (length signed ≡ length signed₀)
+Inv-loop values₀ signed₀ first n v x₀ i₀ values signed x i = (length values ≡ length values₀) × (length signed ≡ length signed₀)
 
 abbrev μ-loop : tie.MeasureT-loop
-μ-loop values₀ signed₀ n v x₀ i₀ values signed x i = n - i
+μ-loop values₀ signed₀ first n v x₀ i₀ values signed x i = n - i
 
 pub fill-values-spec : {M : Type 1} → statement M
 fill-values-spec =
@@ -19,6 +19,7 @@ fill-values-spec =
     Inv-loop
     μ-loop
     (λ c. search needs)
+    (λ c κs. search needs)
     (λ c κs. search needs)
     (λ c κs. search needs)
     (λ c κs. search needs)

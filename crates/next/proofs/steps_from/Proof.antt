@@ -1,17 +1,15 @@
 -- `next::steps_from` meets its contract. The walk leaves step 7, and the value section answers it. Assumes nothing.
-use Rattle.format.specs.Kit.{_≡_, sym, ap, _∙_, List, ℕ, arith, needs, eqb-true}
+use Rattle.format.specs.Kit.{_≡_, sym, ap, _∙_, arith, needs, eqb-true}
 use mir.Facts.{toZ-ofZ}
 use mir.Syntax.{w64}
 use Rattle.format.specs.Refusals.{done}
 use Rattle.format.specs.Editions.{codec}
-use Rattle.format.specs.Opening.{valueIn, valueOf}
+use Rattle.format.specs.Opening.{valueOf}
 use Rattle.format.specs.Next.{noCandidate, nextSteps}
-use Rattle.format.proofs.Fits.{fits-size}
 use Rattle.format.proofs.Rules.{head-facts}
-use Rattle.format.proofs.Editions.{lawful}
 use Rattle.values.specs.Edition.{fetchedOf}
 use Rattle.column.specs.Opened.{columnOf}
-use Rattle.lookup.proofs.Whole.{Parted, id-part, id-length, value-part, value-length, value-found, value-outside}
+use Rattle.lookup.proofs.Whole.{Parted, id-part, id-length, value-length, value-read, value-fits, value-found, value-outside}
 use Rattle.next.specs.Blocks.{reached}
 use Rattle.next.specs.declared.Met as Me
 use Rattle.next.proofs.Answers.{asked-of, asked-id, asked-block, not-reached, sum-none, sum-failed}
@@ -33,25 +31,24 @@ left c =
     (c .walk .ensures .left (a .bytes .now) col (asked-of col (a .target) (q .result) (q .ensures .0)) (id-part (parted (c .before .before .before))))
 
 left-at : (c : tie.After-value-of) →
-    let a = c .before .before .before .before .before .before .before .before .before .before .before .before .before .before .args in
-    let v = c .before .before .before .before .before .met .given .0 in
+    let a = c .before .before .before .before .before .before .before .before .before .before .before .before .before .before .before .args in
+    let v = c .before .before .before .before .before .before .met .given .0 in
     nextSteps (a .bytes .now) (columnOf (a .column)) (a .target)
     ≡ reached (a .bytes .now) (columnOf (a .column)) (Me.Met.At (v .0) (v .1 .0)) (done noCandidate)
 left-at c =
-    let a = c .before .before .before .before .before .before .before .before .before .before .before .before .before .before .args in
-    sym (left (c .before .before .before .before .before .before .before))
-    ∙ ap (λ y. reached (a .bytes .now) (columnOf (a .column)) y (done noCandidate)) (c .before .before .before .before .before .met .given .1)
+    let a = c .before .before .before .before .before .before .before .before .before .before .before .before .before .before .before .args in
+    sym (left (c .before .before .before .before .before .before .before .before))
+    ∙ ap (λ y. reached (a .bytes .now) (columnOf (a .column)) y (done noCandidate)) (c .before .before .before .before .before .before .met .given .1)
 
-value-read : (c : tie.After-value-of) →
-    let a = c .before .before .before .before .before .before .before .before .before .before .before .before .before .before .args in
-    fetchedOf (c .value-of .result) ≡ valueOf (a .bytes .now) (columnOf (a .column)) (c .before .before .before .before .before .met .given .0 .1 .0)
-unfolding valueOf valueIn
-value-read c =
-    let q = c .before .before .before .before .before .before .before .before .before .before in
-    let h = columnOf (q .before .before .before .before .args .column) .head in
-    let o = c .before .before .before .before .before .met .given .0 .1 .0 in
-    c .value-of .ensures ∙ sym (c .before .stored-at .ensures .1)
-    ∙ ap (λ (l : List ℕ). codec (h .edition) .value (h .count) (h .fields) l o) (value-part (parted q))
+read : (c : tie.After-value-of) →
+    let a = c .before .before .before .before .before .before .before .before .before .before .before .before .before .before .before .args in
+    fetchedOf (c .value-of .result) ≡ valueOf (a .bytes .now) (columnOf (a .column)) (c .before .before .before .before .before .before .met .given .0 .1 .0)
+read c =
+    let n = c .before in
+    let q = n .before in
+    let i = c .before .before .before .before .before .before .met .given .0 .1 .0 in
+    value-read (parted (q .before .before .before .before .before .before .before .before .before)) i (q .slot-of .result) (n .number-in .result) (c .value-of .result)
+    (q .slot-of .ensures) (n .number-in .ensures) (c .value-of .ensures)
 
 walk-requires : tie.Need-walk-requires
 walk-requires c κs =
@@ -74,8 +71,8 @@ returns-2 c =
     sum-failed (c .no-more2 .result) (c .no-more2 .ensures)
     ∙ not-reached _ _ (w .walk .result) (c .before .before .match .keys2) (c .before .match2 .keys2) (done noCandidate) ∙ left w
 
-stored-at-requires : tie.Need-stored-at-requires
-stored-at-requires c κs =
+slot-of-requires : tie.Need-slot-of-requires
+slot-of-requires c κs =
     let s = c .before .before .before .before .before .before .before .before .before .before .before .before in
     let h = columnOf (s .args .column) .head in
     let p = c .before .before .before in
@@ -89,17 +86,17 @@ returns-3 : tie.Need-returns-3
 returns-3 c =
     let v = c .before .before .before in
     sum-failed (c .no-more3 .result) (c .no-more3 .ensures)
-    ∙ sym (left-at v ∙ value-outside _ _ (v .value-of .result) (value-read v) (c .before .enum-told2 .given .1))
+    ∙ sym (left-at v ∙ value-outside _ _ (v .value-of .result) (read v) (c .before .enum-told2 .given .1))
 
 returns-4 : tie.Need-returns-4
 returns-4 c =
     let v = c .before .before .before in
-    let h = columnOf (v .before .before .before .before .before .before .before .before .before .before .before .before .before .before .args .column) .head in
+    let a = v .before .before .before .before .before .before .before .before .before .before .before .before .before .before .before .args in
     let z = c .before .value .given .0 .0 in
     let e = c .before .value .given .1 in
-    let f = lawful (h .edition) .fit (h .count) (h .fields) _ _ z (v .before .stored-at .ensures .1 ∙ sym (v .value-of .ensures) ∙ ap fetchedOf e) in
-    rw (toZ-ofZ {w = w64} {z = z} (record { sfits = fits-size z f }))
-    (sym (left-at v ∙ value-found _ _ (v .value-of .result) (value-read v) z e))
+    let f = value-fits (a .bytes .now) (columnOf (a .column)) _ z (sym (read v) ∙ ap fetchedOf e) in
+    rw (toZ-ofZ {w = w64} {z = z} (record { sfits = f }))
+    (sym (left-at v ∙ value-found _ _ (v .value-of .result) (read v) z e))
 
 pub steps-from-spec : {M : Type 1} → statement M
 steps-from-spec =
@@ -116,8 +113,8 @@ steps-from-spec =
     (λ c. omega (arith, parted (c .before .before .before .before .before .before) .whole))
     (λ c. omega (arith, parted (c .before .before .before .before .before .before) .whole))
     (λ c. search needs)
-    stored-at-requires
-    (λ c κs. c .stored-at .ensures .0)
+    slot-of-requires
+    (λ c κs. c .slot-of .ensures .0) (λ c κs. c .before .slot-of .ensures .1)
     (λ c. search needs) (λ c. search needs) (λ c κs. search needs)
     returns-3
     returns-4)

@@ -1,18 +1,16 @@
 -- `page::valued` meets its contract: the value section answers step 7. Assumes nothing.
-use Rattle.format.specs.Kit.{_≡_, sym, ap, _∙_, subst, List, ℕ, arith, needs, eqb-true}
+use Rattle.format.specs.Kit.{_≡_, sym, ap, _∙_, subst, arith, needs, eqb-true}
 use mir.Facts.{toZ-ofZ}
 use mir.Syntax.{w64}
 use Rattle.format.specs.Refusals.{Outcome}
 use Rattle.format.specs.Editions.{codec}
-use Rattle.format.specs.Opening.{valueIn, valueOf}
+use Rattle.format.specs.Opening.{valueOf}
 use Rattle.format.specs.LookUp.{Look}
 use Rattle.format.specs.Page.{placeOrdinal, placeValue, placeKind, placeWords}
-use Rattle.format.proofs.Fits.{fits-size}
 use Rattle.format.proofs.Rules.{head-facts}
-use Rattle.format.proofs.Editions.{lawful}
 use Rattle.values.specs.Edition.{fetchedOf}
 use Rattle.column.specs.Opened.{columnOf}
-use Rattle.lookup.proofs.Whole.{Parted, value-part, value-length, value-found, value-outside}
+use Rattle.lookup.proofs.Whole.{Parted, value-length, value-read, value-fits, value-found, value-outside}
 use Rattle.page.specs.Placed.{Holds}
 use Rattle.page.proofs.valued.Statement.{statement}
 use Rattle.page.proofs.valued.Tie as tie
@@ -21,17 +19,17 @@ parted : (c : tie.After-size2) → let a = c .before .before .before .before .ar
     Parted (a .bytes .now) (columnOf (a .column)) (c .before .size .result) (c .size2 .result)
 parted c = record { starts = c .before .size .ensures; ids = c .size2 .ensures; whole = eqb-true _ _ (c .before .before .before .before .pre .1) }
 
-value-read : (c : tie.After-value-of) → let a = c .before .before .before .before .before .before .before .before .args in
+read : (c : tie.After-value-of) → let a = c .before .before .before .before .before .before .before .before .before .args in
     fetchedOf (c .value-of .result) ≡ valueOf (a .bytes .now) (columnOf (a .column)) (a .ordinal)
-unfolding valueOf valueIn
-value-read c =
-    let a = c .before .before .before .before .before .before .before .before .args in
-    let h = columnOf (a .column) .head in
-    c .value-of .ensures ∙ sym (c .before .stored-at .ensures .1)
-    ∙ ap (λ (l : List ℕ). codec (h .edition) .value (h .count) (h .fields) l (a .ordinal)) (value-part (parted (c .before .before .before .before)))
+read c =
+    let n = c .before in
+    let q = n .before in
+    let p = q .before .before .before in
+    value-read (parted p) (p .before .before .before .before .args .ordinal) (q .slot-of .result) (n .number-in .result) (c .value-of .result) (q .slot-of .ensures)
+    (n .number-in .ensures) (c .value-of .ensures)
 
-stored-at-requires : tie.Need-stored-at-requires
-stored-at-requires c κs =
+slot-of-requires : tie.Need-slot-of-requires
+slot-of-requires c κs =
     let s = c .before .before .before .before .before .before in
     let h = columnOf (s .args .column) .head in
     let f = head-facts h (s .pre .0) in (
@@ -43,21 +41,21 @@ stored-at-requires c κs =
 returns : tie.Need-returns
 returns c =
     let v = c .before .before .before in
-    subst (λ (x : Outcome Look). Holds x (c .refused .result)) (sym (value-outside _ _ (v .value-of .result) (value-read v) (c .before .enum-told .given .1)))
+    subst (λ (x : Outcome Look). Holds x (c .refused .result)) (sym (value-outside _ _ (v .value-of .result) (read v) (c .before .enum-told .given .1)))
     (c .refused .ensures 0)
 
 returns-2 : tie.Need-returns-2
 unfolding placeOrdinal placeValue placeKind placeWords
 returns-2 c =
     let v = c .before .before .before in
-    let h = columnOf (v .before .before .before .before .before .before .before .before .args .column) .head in
+    let a = v .before .before .before .before .before .before .before .before .before .args in
     let z = c .before .value .given .0 .0 in
     let e = c .before .value .given .1 in
-    let f = lawful (h .edition) .fit (h .count) (h .fields) _ _ z (v .before .stored-at .ensures .1 ∙ sym (v .value-of .ensures) ∙ ap fetchedOf e) in
-    let q = sym (value-found _ _ (v .value-of .result) (value-read v) z e) in
+    let f = value-fits (a .bytes .now) (columnOf (a .column)) (a .ordinal) z (sym (read v) ∙ ap fetchedOf e) in
+    let q = sym (value-found _ _ (v .value-of .result) (read v) z e) in
     record {
       ordinal = ap placeOrdinal q;
-      value = toZ-ofZ {w = w64} {z = z} (record { sfits = fits-size z f }) ∙ ap placeValue q;
+      value = toZ-ofZ {w = w64} {z = z} (record { sfits = f }) ∙ ap placeValue q;
       kind = ap placeKind q;
       words = ap placeWords q;
     }
@@ -70,8 +68,8 @@ valued-spec =
     (λ c. omega (arith, parted c .whole))
     (λ c. omega (arith, parted c .whole))
     (λ c. search needs)
-    stored-at-requires
-    (λ c κs. c .stored-at .ensures .0)
+    slot-of-requires
+    (λ c κs. c .slot-of .ensures .0) (λ c κs. c .before .slot-of .ensures .1)
     (λ c. search needs) (λ c. search needs) (λ c κs. search needs)
     returns
     returns-2)

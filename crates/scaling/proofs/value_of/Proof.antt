@@ -1,46 +1,21 @@
--- `scaling::value_of` meets its contract: the test says that the product fits in what is left above the biased form.
--- Assumes nothing.
-use Rattle.format.specs.Kit.{sym, ap, _∙_, _-_, _*_, _^_, _≤_, _<_, leb-true, leb-false, arith, some, needs}
-use mir.Syntax.{w64}
-use mir.Facts.{toZ-ofZ}
+-- `scaling::value_of` meets its contract. Assumes nothing.
+use Rattle.format.specs.Kit.{ap, _∙_, ℤ, needs}
 use Rattle.format.specs.HeaderNumbers.{unzigzag}
+use Rattle.format.specs.Values.{valueAt}
+use Rattle.format.specs.Codec.{signed64}
 use Rattle.format.proofs.Fits.{fits-size, unzigzag-fits}
-use Rattle.scaling.proofs.Keep.{inside, outside}
+use Rattle.signed.specs.Sign.{unbiased}
+use Rattle.signed.proofs.Signs.{unbiased-biased}
 use Rattle.scaling.proofs.value_of.Statement.{statement}
 use Rattle.scaling.proofs.value_of.Tie as tie
 
-room : (c : tie.Then1) → c .before .before .before .args .stored * c .before .before .before .args .divisor ≤ 2 ^ 64 - 1 - c .before .before .biased-of .result
-room c = leb-true _ _ (sym (c .before .product-fits .ensures) ∙ c .if1 .taken)
-
-mul-unbiased : tie.Need-mul-unbiased
-mul-unbiased c = omega (arith, room c)
-
-add-unbiased : tie.Need-add-unbiased
-add-unbiased c = omega (arith, room c)
-
 returns : tie.Need-returns
 returns c =
-    let s = c .before .before .before .before in
-    let f = fits-size _ (unzigzag-fits (s .args .smallest) (s .fits .smallest .fits)) in
-    let q = toZ-ofZ {w = w64} {z = c .unbiased .result} (search needs) ∙ c .unbiased .ensures in
-    ap some q
-    ∙ inside (unzigzag (s .args .smallest)) (s .args .divisor) (s .args .stored) _ f (c .before .before .before .biased-of .ensures)
-    (omega (arith, room (c .before)))
-
-returns-2 : tie.Need-returns-2
-returns-2 c =
-    let s = c .before .before .before in
-    let f = fits-size _ (unzigzag-fits (s .args .smallest) (s .fits .smallest .fits)) in
-    let past : 2 ^ 64 - 1 - c .before .before .biased-of .result < s .args .stored * s .args .divisor =
-    leb-false _ _ (sym (c .before .product-fits .ensures) ∙ c .if1 .left) in
-    outside (unzigzag (s .args .smallest)) (s .args .divisor) (s .args .stored) _ f (c .before .before .biased-of .ensures) (omega arith)
+    let s = c .before .before in
+    c .value-above .ensures
+    ∙ ap (λ (m : ℤ). signed64 (valueAt m (s .args .divisor) (s .args .stored)))
+    (ap unbiased (c .before .biased-of .ensures)
+    ∙ unbiased-biased (unzigzag (s .args .smallest)) (fits-size _ (unzigzag-fits (s .args .smallest) (s .fits .smallest .fits))))
 
 pub value-of-spec : {M : Type 1} → statement M
-value-of-spec =
-    tie.close (tie.spec
-    (λ c κs. search needs) (λ c. search needs) (λ c κs. search needs)
-    mul-unbiased
-    add-unbiased
-    (λ c κs. search needs)
-    returns
-    returns-2)
+value-of-spec = tie.close (tie.spec (λ c κs. search needs) (λ c κs. search needs) returns)

@@ -13,6 +13,10 @@ values-ok-requires-2 : tie.Need-values-ok-requires-2
 unfolding codec
 values-ok-requires-2 c κs = rw (c .enum-told2 .given .1) at (c .before .before .before .pre)
 
+values-ok-requires-3 : tie.Need-values-ok-requires-3
+unfolding codec
+values-ok-requires-3 c κs = rw (c .enum-told3 .given .1) at (c .before .before .before .pre .1)
+
 returns : tie.Need-returns
 unfolding codec tests
 returns c = rw (c .before .enum-told .given .1) (c .values-ok .ensures)
@@ -21,5 +25,10 @@ returns-2 : tie.Need-returns-2
 unfolding codec tests
 returns-2 c = rw (c .before .enum-told2 .given .1) (c .values-ok2 .ensures)
 
+returns-3 : tie.Need-returns-3
+unfolding codec tests
+returns-3 c = rw (c .before .enum-told3 .given .1) (c .values-ok3 .ensures)
+
 pub check-spec : {M : Type 1} → statement M
-check-spec = tie.close (tie.spec (λ c. search needs) values-ok-requires (λ c. search needs) values-ok-requires-2 returns returns-2)
+check-spec = tie.close (tie.spec (λ c. search needs) values-ok-requires (λ c. search needs) values-ok-requires-2
+    (λ c. search needs) values-ok-requires-3 returns returns-2 returns-3)

@@ -12,6 +12,10 @@ fill-requires-2 : tie.Need-fill-requires-2
 unfolding codec
 fill-requires-2 c κs = rw (c .before .enum-told2 .given .1) at (c .before .before .before .before .pre)
 
+fill-requires-3 : tie.Need-fill-requires-3
+unfolding codec
+fill-requires-3 c κs = let p = rw (c .before .enum-told3 .given .1) at (c .before .before .before .before .pre) in (p .1, p .2, p .3)
+
 returns : tie.Need-returns
 unfolding codec
 returns c = rw (c .before .before .before .enum-told .given .1) (c .before .fill .ensures)
@@ -19,6 +23,10 @@ returns c = rw (c .before .before .before .enum-told .given .1) (c .before .fill
 returns-2 : tie.Need-returns-2
 unfolding codec
 returns-2 c = rw (c .before .before .before .enum-told2 .given .1) (c .before .fill2 .ensures)
+
+returns-3 : tie.Need-returns-3
+unfolding codec
+returns-3 c = rw (c .before .before .before .enum-told3 .given .1) (c .before .fill3 .ensures)
 
 pub fill-spec : {M : Type 1} → statement M
 fill-spec =
@@ -28,6 +36,10 @@ fill-spec =
     (λ c. search needs)
     fill-requires-2
     (λ c. search needs)
+    fill-requires-3
+    (λ c. search needs)
     returns
     (λ c. search needs)
-    returns-2)
+    returns-2
+    (λ c. search needs)
+    returns-3)

@@ -1,16 +1,16 @@
 -- `values::order_of` meets its contract. Assumes nothing.
 use Rattle.format.specs.Kit.{refl, needs}
-use Rattle.format.specs.Editions.{codec}
 use Rattle.values.proofs.order_of.Statement.{statement}
 use Rattle.values.proofs.order_of.Tie as tie
 
 returns : tie.Need-returns
-unfolding codec
 returns c = rw (c .enum-told .given .1) refl
 
 returns-2 : tie.Need-returns-2
-unfolding codec
 returns-2 c = rw (c .enum-told2 .given .1) refl
 
+returns-3 : tie.Need-returns-3
+returns-3 c = rw (c .enum-told3 .given .1) refl
+
 pub order-of-spec : {M : Type 1} → statement M
-order-of-spec = tie.close (tie.spec (λ c. search needs) (λ c. search needs) returns returns-2)
+order-of-spec = tie.close (tie.spec (λ c. search needs) (λ c. search needs) (λ c. search needs) returns returns-2 returns-3)

@@ -11,9 +11,9 @@ fn fields(values: &[i64]) -> (u64, u64) {
         let len = write(&ids, values, edition, 9, &mut out).expect("room for a few values");
         open(&out[..len as usize]).expect("a written column opens")
     };
-    let (column, packed) = (of_edition(1), of_edition(2));
-    // Edition 2 has the same divisor, and the next width that it knows.
-    assert_eq!(packed.divisor, column.divisor);
+    let [column, packed, runs] = [1, 2, 3].map(&mut of_edition);
+    // The same divisor in each edition. Edition 2 has the next width that it knows.
+    assert_eq!([packed.divisor, runs.divisor], [column.divisor; 2]);
     assert!(packed.width >= column.width);
     (column.divisor, column.width)
 }

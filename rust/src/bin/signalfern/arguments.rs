@@ -40,7 +40,9 @@ impl Command {
             if word == "-h" || word == "--help" {
                 return Ok(Parsed::Help);
             }
-            if word.len() < 2 || !word.as_bytes().starts_with(b"-") {
+            let is_number = matches!(word.as_bytes(), [b'-', b'0'..=b'9', ..]);
+            let is_plain = word.len() < 2 || !word.as_bytes().starts_with(b"-");
+            if is_plain || self.negative && is_number {
                 plain.push(word.clone());
                 continue;
             }

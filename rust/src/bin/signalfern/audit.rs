@@ -11,6 +11,7 @@ use crate::failure::Failure;
 use crate::load::Loaded;
 use crate::output::print;
 use crate::packing::Packing;
+use crate::runs::{self, Run};
 use crate::text::{byte_at, counted, is_standard};
 
 pub fn run(mut arguments: Arguments) -> Result<(), Failure> {
@@ -69,40 +70,77 @@ struct Stored<'a> {
     /// Its bits, counted from the section's first, and their order.
     bits: Range<usize>,
     packing: Packing,
+    /// Its run, in edition 3.
+    run: Option<Run>,
 }
 
 impl<'a> Stored<'a> {
     /// None of an edition whose packing the tool does not know.
     fn new(column: Column<'a>, section: &'a [u8], ordinal: u64) -> Option<Self> {
-        let width = column.width() as usize;
-        let first = ordinal as usize * width;
+        let packing = Packing::of(column.edition().number().into())?;
+        let (run, bits) = match packing {
+            Packing::Runs => {
+                let run = Run::at(column.count(), section, ordinal / runs::LENGTH)?;
+                let bits = run.bits(column.count(), ordinal % runs::LENGTH)?;
+                (Some(run), bits)
+            }
+            _ => {
+                let width = column.width() as usize;
+                let first = ordinal as usize * width;
+                (None, first..first + width)
+            }
+        };
         Some(Self {
             column,
             section,
             start: section.as_ptr() as usize - column.bytes().as_ptr() as usize,
             ordinal,
-            bits: first..first + width,
-            packing: Packing::of(column.edition().number().into())?,
+            bits,
+            packing,
+            run,
         })
+    }
+
+    /// What the directory says of the run, and where.
+    fn run_line(&self) -> String {
+        let Some(run) = self.run else {
+            return String::new();
+        };
+        let Run {
+            index,
+            smallest,
+            greatest,
+            ..
+        } = run;
+        let (bits, at) = (counted(run.width, "bit"), self.start + run.entry() as usize);
+        format!(
+            "  run {index}: from {smallest} to {greatest}, {bits} for each value, told at {}\n",
+            byte_at(at)
+        )
     }
 
     /// The lines about it; none if its bits do not give the value.
     fn lines(&self, value: i64) -> Option<String> {
-        let (smallest, divisor) = (self.column.smallest(), self.column.divisor());
+        let smallest = (self.run).map_or(self.column.smallest(), |run| run.smallest);
+        let divisor = self.column.divisor();
         let number = self.packing.number(self.section, self.bits.clone());
         let sum = i128::from(smallest) + i128::from(divisor) * i128::from(number);
         if sum != i128::from(value) {
             return None;
         }
+        let run = self.run_line();
         if self.bits.is_empty() {
-            return Some(format!("  no bits are stored: every value is {value}\n"));
+            let of_run = self.run.map_or("", |_| " of the run");
+            return Some(format!(
+                "{run}  no bits are stored: every value{of_run} is {value}\n"
+            ));
         }
         let bytes = counted(self.section.len() as u64, "byte");
         let bits = counted(self.bits.len() as u64, "bit");
         let (ordinal, first) = (self.ordinal, self.bits.start);
         let mut out = format!(
-            "  value section: {bytes}, from {} on\n  stored number {ordinal}: {number}, in {bits} from \
-             bit {first} of the section on; {smallest} + {divisor} * {number} = {value}\n",
+            "  value section: {bytes}, from {} on\n{run}  stored number {ordinal}: {number}, in {bits} \
+             from bit {first} of the section on; {smallest} + {divisor} * {number} = {value}\n",
             byte_at(self.start)
         );
         for at in first / 8..=(self.bits.end - 1) / 8 {

@@ -15,6 +15,8 @@ pub struct Command {
     pub options: &'static [Choice],
     /// What its plain words are, for completions.
     pub operands: Value,
+    /// Whether a plain word may be a negative number.
+    pub negative: bool,
     pub run: fn(Arguments) -> Result<(), Failure>,
 }
 

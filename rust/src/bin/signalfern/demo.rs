@@ -12,12 +12,13 @@ use crate::output::{print, Output};
 use crate::text::named;
 
 /// What it leaves in its folder.
-const FILES: [&str; 5] = [
+const FILES: [&str; 6] = [
     "scores.txt",
     "scores.column",
     "again.txt",
     "correction.txt",
     "correction.column",
+    "runs.column",
 ];
 
 pub fn run(mut arguments: Arguments) -> Result<(), Failure> {
@@ -36,13 +37,14 @@ pub fn run(mut arguments: Arguments) -> Result<(), Failure> {
             return Err(Failure::Trouble(message));
         }
     }
-    let [list, column, again, fixes, correction] = &files;
+    let [list, column, again, fixes, correction, runs] = &files;
     there_and_back(list, column, again)?;
     let ids = ["7", "8", "70001", "200000", "2147352575"].map(Path::new);
     step(&[&["look-up".as_ref(), column.as_path()], &ids[..]].concat())?;
     let from = ["60000", "--count", "3"].map(Path::new);
     step(&[&["next".as_ref(), column.as_path()], &from[..]].concat())?;
     corrected(column, fixes, correction)?;
+    in_runs(list, runs)?;
     step(&["show".as_ref(), column])?;
     print(&format!("\nThe files are in {}\n", named(&folder)))
 }
@@ -69,6 +71,13 @@ fn corrected(column: &Path, fixes: &Path, correction: &Path) -> Result<(), Failu
     let layers = [column, "--correction".as_ref(), correction];
     step(&[&["look-up".as_ref()], &layers[..], &ids].concat())?;
     step(&[&["audit".as_ref()], &layers[..], &ids[..1]].concat())
+}
+
+/// The same scores in runs, and the first of them in a range.
+fn in_runs(list: &Path, runs: &Path) -> Result<(), Failure> {
+    let edition = ["--edition", "3"].map(Path::new);
+    step(&[&["write".as_ref(), list, "-o".as_ref(), runs], &edition[..]].concat())?;
+    step(&["find".as_ref(), runs, "185".as_ref(), "1000".as_ref()])
 }
 
 /// A folder of our own among the temporary files, where others may make folders too.

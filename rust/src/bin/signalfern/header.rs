@@ -3,6 +3,8 @@
 use signalfern::{power_allowed, MAX_COUNT};
 
 use crate::packing::Packing;
+use crate::runs;
+use crate::text::counted;
 
 /// The longest header: nine numbers of ten bytes.
 pub const LONGEST: usize = 90;
@@ -112,6 +114,20 @@ impl Header {
         Packing::of(self.edition)
     }
 
+    /// Whether its values stand in runs.
+    pub fn in_runs(&self) -> bool {
+        self.packing() == Some(Packing::Runs)
+    }
+
+    /// The bytes of the value section, as far as they are there; of a header that keeps the rules.
+    pub fn values_in<'a>(&self, bytes: &'a [u8]) -> &'a [u8] {
+        let start = usize::try_from(self.id_bytes).ok();
+        let start = start.and_then(|it| it.checked_add(self.len()));
+        start
+            .and_then(|start| bytes.get(start..))
+            .unwrap_or_default()
+    }
+
     /// The first rule that is broken: the index of a number in it, and a sentence.
     pub fn broken_rule(&self) -> Option<(usize, String)> {
         self.broken_limit().or_else(|| self.broken_size())
@@ -134,6 +150,13 @@ impl Header {
         if let Some(others) = self.packing().and_then(|it| it.other_widths(width)) {
             return Some((5, format!("width {width}, and {others}")));
         }
+        if self.in_runs() && self.least != 0 {
+            let smallest = self.smallest();
+            let why = format!(
+                "smallest value {smallest}, and in edition 3 it is 0: its runs have their own"
+            );
+            return Some((6, why));
+        }
         let why = "divisor 0, and it must be at least 1".to_string();
         (self.divisor == 0).then_some((7, why))
     }
@@ -147,6 +170,14 @@ impl Header {
                 "an id section of {id_bytes} bytes, and {jumps} jump entries need at least {needed}"
             );
             return Some((3, why));
+        }
+        if self.in_runs() {
+            let (runs, needed) = (runs::count_of(count), runs::directory_bytes(count));
+            let why = format!(
+                "a value section of {value_bytes} bytes, and the directory of {} takes {needed}",
+                counted(runs, "run")
+            );
+            return (value_bytes < needed).then_some((8, why));
         }
         let needed = (u128::from(count) * u128::from(width)).div_ceil(8);
         let why = format!(
@@ -205,6 +236,24 @@ mod tests {
             sentence.starts_with("width 3, and edition 2 has 0, 1, 2, 4, 8, "),
             "{sentence}"
         );
+        // Edition 3 has neither a width nor a smallest value here, and a directory.
+        for (width, least, index, words) in [
+            (3, 270, 5, "width 3, and in edition 3 it is 0"),
+            (0, 270, 6, "smallest value 135, and in edition 3 it is 0"),
+            (
+                0,
+                0,
+                8,
+                "a value section of 1 bytes, and the directory of 1 run takes 25",
+            ),
+        ] {
+            (wrong.edition, wrong.width, wrong.least) = (3, width, least);
+            let (found, sentence) = wrong.broken_rule().unwrap();
+            assert_eq!(found, index);
+            assert!(sentence.contains(words), "{sentence}");
+        }
+        wrong.value_bytes = 25;
+        assert_eq!(wrong.broken_rule(), None);
     }
 
     #[test]

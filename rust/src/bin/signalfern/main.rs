@@ -3,8 +3,8 @@
 //! `table` holds the commands and options (`command`); the parser (`arguments`), `help`, `man` and `completions`
 //! are made from it. A command has a module of its own name. Below them: `input`, `lines`, `pairs` and
 //! `load` read; `output`, `temporary`, `printing` and `range` write; `column` is the one place that
-//! uses the package's opened column; `header`, `blocks` and `packing` take bytes apart for `show`, `audit`
-//! and `diagnosis`, which explain a file and never judge it; all `unsafe` is in `system`.
+//! uses the package's opened column; `header`, `blocks`, `packing` and `runs` take bytes apart for `show`,
+//! `audit` and `diagnosis`, which explain a file and never judge it; all `unsafe` is in `system`.
 
 mod arguments;
 mod audit;
@@ -17,6 +17,7 @@ mod completions;
 mod demo;
 mod diagnosis;
 mod failure;
+mod find;
 mod header;
 mod help;
 mod input;
@@ -36,6 +37,7 @@ mod printing;
 mod progress;
 mod range;
 mod read;
+mod runs;
 mod set;
 mod sha256;
 mod show;

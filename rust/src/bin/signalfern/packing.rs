@@ -9,6 +9,8 @@ pub enum Packing {
     HighFirst,
     /// Edition 2: Lucene 9's widths, low bit first.
     LowFirst,
+    /// Edition 3: runs with a width each, high bit first. The header has none.
+    Runs,
 }
 
 /// The greatest width of edition 1.
@@ -22,6 +24,7 @@ impl Packing {
         match edition {
             1 => Some(Self::HighFirst),
             2 => Some(Self::LowFirst),
+            3 => Some(Self::Runs),
             _ => None,
         }
     }
@@ -31,10 +34,11 @@ impl Packing {
         match self {
             Self::HighFirst => "values in any width, high bit first",
             Self::LowFirst => "values as Lucene 9 packs them, low bit first",
+            Self::Runs => "values in runs of 16384 with a width each, high bit first",
         }
     }
 
-    /// Which widths are allowed, if this one is not.
+    /// Which widths a header may have, if not this one.
     pub fn other_widths(self, width: u64) -> Option<String> {
         match self {
             Self::HighFirst if width > MOST => Some(format!("at most {MOST} bits are allowed")),
@@ -42,6 +46,9 @@ impl Packing {
                 let widths: Vec<String> = LUCENE.iter().map(u64::to_string).collect();
                 let widths = widths.join(", ");
                 Some(format!("edition 2 has 0, {widths} alone"))
+            }
+            Self::Runs if width != 0 => {
+                Some("in edition 3 it is 0: its runs have their own".to_string())
             }
             _ => None,
         }
@@ -61,7 +68,7 @@ impl Packing {
     /// The weight of bit j of a section in its byte, as a power of two.
     fn weight(self, j: usize) -> usize {
         match self {
-            Self::HighFirst => 7 - j % 8,
+            Self::HighFirst | Self::Runs => 7 - j % 8,
             Self::LowFirst => j % 8,
         }
     }
@@ -70,7 +77,7 @@ impl Packing {
     pub fn number(self, section: &[u8], bits: Range<usize>) -> u64 {
         let bit = |j: usize| u64::from(section[j / 8] >> self.weight(j) & 1);
         match self {
-            Self::HighFirst => bits.fold(0, |number, j| number << 1 | bit(j)),
+            Self::HighFirst | Self::Runs => bits.fold(0, |number, j| number << 1 | bit(j)),
             Self::LowFirst => bits.rev().fold(0, |number, j| number << 1 | bit(j)),
         }
     }
@@ -99,7 +106,7 @@ impl Packing {
     /// The spare bits of a last byte of which so many bits are used, 1 to 7, and which end they are at.
     pub fn spare(self, used: u32) -> (u8, &'static str) {
         match self {
-            Self::HighFirst => (0xFF >> used, "low"),
+            Self::HighFirst | Self::Runs => (0xFF >> used, "low"),
             Self::LowFirst => (0xFF << used, "high"),
         }
     }
@@ -115,6 +122,7 @@ mod tests {
         for (packing, section, marked) in [
             (Packing::HighFirst, [0x54, 0xA0], "[10]100000"),
             (Packing::LowFirst, [0x15, 0x0A], "000010[10]"),
+            (Packing::Runs, [0x54, 0xA0], "[10]100000"),
         ] {
             let number = |i: usize| packing.number(&section, 2 * i..2 * i + 2);
             assert!((0..8).map(number).eq([1, 1, 1, 0, 2, 2, 0, 0]));
@@ -137,6 +145,9 @@ mod tests {
             least.dedup();
             assert!(widths.eq(least), "{packing:?}");
         }
+        let widths = (0..100).filter(|&width| Packing::Runs.other_widths(width).is_none());
+        assert!(widths.eq([0]));
+        assert_eq!(Packing::Runs.least_width(5), 3);
         assert_eq!(Packing::HighFirst.spare(3), (0x1F, "low"));
         assert_eq!(Packing::LowFirst.spare(3), (0xF8, "high"));
     }

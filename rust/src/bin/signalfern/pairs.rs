@@ -211,7 +211,8 @@ pub fn parse_asked(word: &[u8]) -> Result<u32, Wrong> {
     }
 }
 
-fn parse_value(word: &[u8]) -> Result<i64, Wrong> {
+/// A value as it stands in a text.
+pub fn parse_value(word: &[u8]) -> Result<i64, Wrong> {
     parse(word).ok_or_else(|| {
         let (word, least, most) = (quoted(word), i64::MIN, i64::MAX);
         Wrong::Text(format!(

@@ -10,6 +10,7 @@ use crate::header::{smallest, Header, NAMES};
 use crate::load::Loaded;
 use crate::output::print;
 use crate::packing::Packing;
+use crate::runs::{self, Run};
 use crate::text::counted;
 
 /// Rows of blocks shown at the beginning and at the end of a long table.
@@ -63,8 +64,12 @@ fn picture(loaded: &Loaded, mark: &str) -> String {
     header_rows(&mut out, &header.numbers(), header.len());
     if header.packing().is_some() && header.broken_rule().is_none() {
         let section = Section::of(&header, bytes);
-        let (runs, sizes) = runs(&section);
-        blocks(&mut out, &runs, mark);
+        let (rows, sizes) = rows_of(&section);
+        blocks(&mut out, &rows, mark);
+        if header.in_runs() {
+            let runs: Vec<Run> = Run::all(header.count, header.values_in(bytes)).collect();
+            value_runs(&mut out, &runs, mark);
+        }
         sections(&mut out, &header, &sizes);
     }
     out
@@ -77,7 +82,7 @@ fn header_rows(out: &mut String, numbers: &[u64], bytes: usize) {
     let rows: Vec<(&str, String, String)> = (NAMES.iter().zip(numbers))
         .enumerate()
         .map(|(index, (name, number))| {
-            let remark = remark(index, *number);
+            let remark = remark(Packing::of(numbers[0]), index, *number);
             let number = match index {
                 6 => smallest(*number).to_string(),
                 _ => number.to_string(),
@@ -93,9 +98,10 @@ fn header_rows(out: &mut String, numbers: &[u64], bytes: usize) {
     }
 }
 
-fn remark(index: usize, number: u64) -> String {
+fn remark(packing: Option<Packing>, index: usize, number: u64) -> String {
     match (index, number) {
-        (0, _) => Packing::of(number).map_or(String::new(), |it| it.about().to_string()),
+        (0, _) => packing.map_or(String::new(), |it| it.about().to_string()),
+        (5 | 6, 0) if packing == Some(Packing::Runs) => "each run has its own".to_string(),
         (2, 0) => "no ranks".to_string(),
         (2, 7..=15) => format!("one rank to every {} places of a dense block", 1 << number),
         (3 | 8, _) => "bytes".to_string(),
@@ -104,9 +110,9 @@ fn remark(index: usize, number: u64) -> String {
     }
 }
 
-/// Neighbouring blocks of one kind.
+/// Neighbouring blocks of one kind, which make a row.
 #[derive(Clone, Copy, Debug, PartialEq, Eq)]
-struct Run {
+struct Row {
     kind: Kind,
     first: u64,
     last: u64,
@@ -114,12 +120,12 @@ struct Run {
     bytes: u64,
 }
 
-impl Run {
+impl Row {
     fn blocks(&self) -> u64 {
         self.last - self.first + 1
     }
 
-    fn row(&self, out: &mut String) {
+    fn put(&self, out: &mut String) {
         let numbers = if self.first == self.last {
             self.first.to_string()
         } else {
@@ -139,8 +145,8 @@ struct Sizes {
     bitmaps: u64,
 }
 
-fn runs(section: &Section) -> (Vec<Run>, Sizes) {
-    let mut runs: Vec<Run> = Vec::new();
+fn rows_of(section: &Section) -> (Vec<Row>, Sizes) {
+    let mut rows: Vec<Row> = Vec::new();
     let mut sizes = Sizes::default();
     for block in section.walk() {
         let Block {
@@ -159,13 +165,13 @@ fn runs(section: &Section) -> (Vec<Run>, Sizes) {
             }
             Kind::All => {}
         }
-        match runs.last_mut() {
-            Some(run) if run.kind == kind && run.last + 1 == number => {
-                run.last = number;
-                run.ids += count;
-                run.bytes += bytes;
+        match rows.last_mut() {
+            Some(row) if row.kind == kind && row.last + 1 == number => {
+                row.last = number;
+                row.ids += count;
+                row.bytes += bytes;
             }
-            _ => runs.push(Run {
+            _ => rows.push(Row {
                 kind,
                 first: number,
                 last: number,
@@ -174,18 +180,39 @@ fn runs(section: &Section) -> (Vec<Run>, Sizes) {
             }),
         }
     }
-    (runs, sizes)
+    (rows, sizes)
 }
 
-fn blocks(out: &mut String, runs: &[Run], mark: &str) {
-    let total: u64 = runs.iter().map(Run::blocks).sum();
-    let far = if mark.is_empty() {
-        ""
-    } else {
-        ", as far as they make sense"
-    };
-    let _ = writeln!(out, "\nBlocks of 65536 ids ({total}{far})");
-    if runs.is_empty() {
+/// What is said of a table of a damaged column.
+fn as_far(mark: &str) -> &'static str {
+    match mark {
+        "" => "",
+        _ => ", as far as they make sense",
+    }
+}
+
+/// The first rows of a table and the last, and between them those that are left out.
+fn first_and_last<T>(
+    out: &mut String,
+    rows: &[T],
+    put: impl Fn(&mut String, &T),
+    left_out: impl Fn(&[T]) -> String,
+) {
+    if rows.len() <= FIRST_ROWS + LAST_ROWS {
+        rows.iter().for_each(|row| put(out, row));
+        return;
+    }
+    let (first, rest) = rows.split_at(FIRST_ROWS);
+    let (middle, last) = rest.split_at(rest.len() - LAST_ROWS);
+    first.iter().for_each(|row| put(out, row));
+    let _ = writeln!(out, "  ... {} left out ...", left_out(middle));
+    last.iter().for_each(|row| put(out, row));
+}
+
+fn blocks(out: &mut String, rows: &[Row], mark: &str) {
+    let total: u64 = rows.iter().map(Row::blocks).sum();
+    let _ = writeln!(out, "\nBlocks of 65536 ids ({total}{})", as_far(mark));
+    if rows.is_empty() {
         return;
     }
     let _ = writeln!(
@@ -193,26 +220,17 @@ fn blocks(out: &mut String, runs: &[Run], mark: &str) {
         "  {:<16} {:<7} {:>7} {:>12} {:>12}",
         "block", "kind", "blocks", "ids", "bytes"
     );
-    if runs.len() <= FIRST_ROWS + LAST_ROWS {
-        runs.iter().for_each(|run| run.row(out));
-    } else {
-        let (first, rest) = runs.split_at(FIRST_ROWS);
-        let (middle, last) = rest.split_at(rest.len() - LAST_ROWS);
-        first.iter().for_each(|run| run.row(out));
-        let left_out: u64 = middle.iter().map(Run::blocks).sum();
-        let _ = writeln!(
-            out,
-            "  ... {left_out} blocks in {} rows left out ...",
-            middle.len()
-        );
-        last.iter().for_each(|run| run.row(out));
-    }
+    let left_out = |middle: &[Row]| {
+        let blocks: u64 = middle.iter().map(Row::blocks).sum();
+        format!("{blocks} blocks in {} rows", middle.len())
+    };
+    first_and_last(out, rows, |out, row| row.put(out), left_out);
     for kind in Kind::EACH {
         let (mut blocks, mut ids, mut bytes) = (0, 0, 0);
-        for run in runs.iter().filter(|run| run.kind == kind) {
-            blocks += run.blocks();
-            ids += run.ids;
-            bytes += run.bytes;
+        for row in rows.iter().filter(|row| row.kind == kind) {
+            blocks += row.blocks();
+            ids += row.ids;
+            bytes += row.bytes;
         }
         row(out, "together", kind.name(), [blocks, ids, bytes]);
     }
@@ -225,8 +243,45 @@ fn row(out: &mut String, name: &str, kind: &str, [blocks, ids, bytes]: [u64; 3])
     );
 }
 
+/// The runs of edition 3: what the directory says of each, and a bar of its width.
+fn value_runs(out: &mut String, runs: &[Run], mark: &str) {
+    let _ = writeln!(
+        out,
+        "\nRuns of {} values ({}{})",
+        runs::LENGTH,
+        runs.len(),
+        as_far(mark)
+    );
+    if runs.is_empty() {
+        return;
+    }
+    let row = |ordinal: &str, [smallest, greatest, start, width]: [String; 4], bar: &str| {
+        let row =
+            format!("  {ordinal:>10} {smallest:>20} {greatest:>20} {start:>10} {width:>5}  {bar}");
+        format!("{}\n", row.trim_end())
+    };
+    let title = ["smallest", "greatest", "start", "width"].map(String::from);
+    out.push_str(&row("ordinal", title, ""));
+    let put = |out: &mut String, run: &Run| {
+        let numbers = [
+            run.smallest.to_string(),
+            run.greatest.to_string(),
+            run.start.to_string(),
+            run.width.to_string(),
+        ];
+        // A sign for two bits; of a damaged column no more than there can be.
+        let bar = "#".repeat(run.width.min(64).div_ceil(2) as usize);
+        out.push_str(&row(&run.first().to_string(), numbers, &bar));
+    };
+    first_and_last(out, runs, put, |middle| format!("{} runs", middle.len()));
+}
+
 fn sections(out: &mut String, header: &Header, sizes: &Sizes) {
     let total = header.total();
+    let directory = match header.in_runs() {
+        true => runs::directory_bytes(header.count),
+        false => 0,
+    };
     let mut rows = vec![
         ("header", header.len() as u128),
         ("block heads", u128::from(sizes.heads)),
@@ -235,8 +290,11 @@ fn sections(out: &mut String, header: &Header, sizes: &Sizes) {
         ("bitmaps", u128::from(sizes.bitmaps)),
         ("end block", END.len() as u128),
         ("jump entries", 8 * u128::from(header.jump_count)),
-        ("values", u128::from(header.value_bytes)),
+        ("values", u128::from(header.value_bytes - directory)),
     ];
+    if header.in_runs() {
+        rows.insert(rows.len() - 1, ("run directory", u128::from(directory)));
+    }
     let known: u128 = rows.iter().map(|row| row.1).sum();
     if known < total {
         rows.push(("not made out", total - known));

@@ -2,7 +2,7 @@
 //! completions are all made from this table.
 
 use crate::command::{flag, option, Choice, Command, Value};
-use crate::{audit, check, demo, help, judge, look_up, next, read, set, show, write};
+use crate::{audit, check, demo, find, help, judge, look_up, next, read, set, show, write};
 
 /// What the tool is, above the list of commands.
 pub const ABOUT: &str = "score columns, by proved calls";
@@ -24,7 +24,7 @@ checksum, and most changes of a stored value give another sound column. To know 
 one that was written, compare its SHA-256 digest: --digest, or a file COLUMN.sha256 beside it.";
 
 pub static COMMANDS: &[Command] = &[
-    WRITE, CHECK, READ, LOOK_UP, NEXT, AUDIT, SHOW, JUDGE, SET, DEMO, HELP,
+    WRITE, CHECK, READ, LOOK_UP, NEXT, FIND, AUDIT, SHOW, JUDGE, SET, DEMO, HELP,
 ];
 
 const WRITE: Command = Command {
@@ -59,9 +59,11 @@ const WRITE: Command = Command {
         option(
             Some('e'),
             "edition",
-            ("E", Value::OneOf(&["1", "2"])),
+            ("E", Value::OneOf(&["1", "2", "3"])),
             "how values are stored: 1 in the least width, high bit first; 2 as Lucene 9 packs them, low \
-             bit first, in one of its widths. The default is 1. Every command reads both",
+             bit first, in one of its widths; 3 as 1, but in runs of 16384 values with a width each, and \
+             with a directory of them, by which `find` searches. The default is 1. Every command reads \
+             them all, but `find` takes 3 alone",
         ),
         flag(
             None,
@@ -75,6 +77,7 @@ const WRITE: Command = Command {
         ),
     ],
     operands: Value::File,
+    negative: false,
     run: write::run,
 };
 
@@ -108,6 +111,7 @@ const CHECK: Command = Command {
         ),
     ],
     operands: Value::File,
+    negative: false,
     run: check::run,
 };
 
@@ -133,6 +137,7 @@ const READ: Command = Command {
         flag(Some('f'), "force", "replace a file that is not writable"),
     ],
     operands: Value::File,
+    negative: false,
     run: read::run,
 };
 
@@ -175,6 +180,7 @@ const LOOK_UP: Command = Command {
         ),
     ],
     operands: Value::File,
+    negative: false,
     run: look_up::run,
 };
 
@@ -202,7 +208,30 @@ const NEXT: Command = Command {
         ),
     ],
     operands: Value::File,
+    negative: false,
     run: next::run,
+};
+
+const FIND: Command = Command {
+    name: "find",
+    words: "COLUMN LOW HIGH [--json]",
+    summary: "the first pair with a value in a range",
+    text: &[
+        "Finds the first pair whose value is from LOW to HIGH, both included, in a column of edition 3 \
+         (`write --edition 3`). One line: the id, then its value and its ordinal (how many ids lie below \
+         it). Where there is no such pair, a line `none from LOW to HIGH` says so; that is an answer, and \
+         the status is 0.",
+        "The directory tells the smallest and the greatest value of each run of 16384, and runs that cannot \
+         hold such a value are not read. The column is checked first, which reads all of it.",
+    ],
+    options: &[flag(
+        None,
+        "json",
+        "a JSON object, with the range that was searched for",
+    )],
+    operands: Value::File,
+    negative: true,
+    run: find::run,
 };
 
 const AUDIT: Command = Command {
@@ -217,6 +246,7 @@ const AUDIT: Command = Command {
     ],
     options: &[CORRECTION],
     operands: Value::File,
+    negative: false,
     run: audit::run,
 };
 
@@ -226,11 +256,12 @@ const SHOW: Command = Command {
     summary: "what is in it, and where the bytes go",
     text: &[
         "Shows the header, the blocks of ids with their kind and count (neighbours of one kind \
-         together), and where the bytes go. Of a damaged column it shows what can be made out, and \
-         says that it is damaged.",
+         together), of a column of edition 3 the runs of values, and where the bytes go. Of a damaged \
+         column it shows what can be made out, and says that it is damaged.",
     ],
     options: &[],
     operands: Value::File,
+    negative: false,
     run: show::run,
 };
 
@@ -263,6 +294,7 @@ const SET: Command = Command {
         ),
     ],
     operands: Value::File,
+    negative: false,
     run: set::run,
 };
 
@@ -301,6 +333,7 @@ const JUDGE: Command = Command {
         ),
     ],
     operands: Value::File,
+    negative: false,
     run: judge::run,
 };
 
@@ -315,6 +348,7 @@ const DEMO: Command = Command {
     ],
     options: &[],
     operands: Value::Folder,
+    negative: false,
     run: demo::run,
 };
 
@@ -338,8 +372,9 @@ const HELP: Command = Command {
         ),
     ],
     operands: Value::OneOf(&[
-        "write", "check", "read", "look-up", "next", "audit", "show", "judge", "set", "demo",
-        "help",
+        "write", "check", "read", "look-up", "next", "find", "audit", "show", "judge", "set",
+        "demo", "help",
     ]),
+    negative: false,
     run: help::run,
 };

@@ -18,7 +18,7 @@ use crate::text::{counted, hex, is_standard, named};
 const DEFAULT_POWER: u32 = 9;
 
 /// What `--edition` takes.
-const EDITIONS: &str = "edition: 1 or 2";
+const EDITIONS: &str = "edition: 1, 2 or 3";
 
 pub fn run(mut arguments: Arguments) -> Result<(), Failure> {
     let rule = "rank power: 0, or 7 to 15";

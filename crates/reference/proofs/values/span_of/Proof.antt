@@ -1,15 +1,14 @@
 -- `reference::values::span_of` is safe and ends.
 use Prim.Native.Nat.{_-_}
 use borrow.Author.Needs.{needs}
-use lib.ListN.{length}
 use Rattle.reference.proofs.values.span_of.Statement.{statement}
 use Rattle.reference.proofs.values.span_of.Tie as tie
 
 abbrev Inv-loop : tie.InvT-loop
-Inv-loop values first s₀ i₀ i-end s i = Unit {0}
+Inv-loop values «from» end first s₀ i₀ s i = Unit {0}
 
 abbrev μ-loop : tie.MeasureT-loop
-μ-loop values first s₀ i₀ i-end s i = length values - i
+μ-loop values «from» end first s₀ i₀ s i = end - i
 
 pub span-of-spec : {M : Type 1} → statement M
 span-of-spec =

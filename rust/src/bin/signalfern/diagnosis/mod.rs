@@ -7,6 +7,7 @@ mod dense;
 mod entries;
 mod ids;
 mod length;
+mod runs;
 mod start;
 #[cfg(test)]
 mod tests;

@@ -24,7 +24,7 @@ fn columns() -> Vec<Vec<u8>> {
         [some.clone(), in_block(2, &dense), in_block(3, &dense)].concat(),
     ];
     let mut columns = Vec::new();
-    for edition in [Edition::Plain, Edition::Lucene] {
+    for edition in [Edition::Plain, Edition::Lucene, Edition::Runs] {
         for (ids, step) in lists.iter().zip([1, 5, 3, 1, 1, 1000]) {
             for power in [0, 7, 9, 15] {
                 let values: Vec<i64> = (ids.iter())
@@ -39,7 +39,7 @@ fn columns() -> Vec<Vec<u8>> {
     columns
 }
 
-fn finding(bytes: &[u8]) -> (u64, String) {
+pub fn finding(bytes: &[u8]) -> (u64, String) {
     assert_eq!(signalfern::check(bytes), Err(Refusal::Damaged));
     let header = Header::parse(bytes).unwrap();
     let finding = damage::find(&header, bytes).expect("a place is found");

@@ -1,6 +1,6 @@
 //! The value section of a damaged column.
 
-use super::Finding;
+use super::{runs, Finding};
 use crate::header::{Header, NAMES};
 use crate::packing::Packing;
 
@@ -13,15 +13,21 @@ struct Summary {
     divisor: u64,
 }
 
+/// A number of the header that the values do not bear out.
+pub fn in_header(header: &Header, index: usize, why: String) -> Finding {
+    let at = header.starts[index] as u64;
+    let part = format!("{} in the header", NAMES[index]);
+    Finding { at, part, why }
+}
+
 /// The first thing that is wrong with the values, or with the header's numbers about them.
 pub fn find(header: &Header, bytes: &[u8]) -> Option<Finding> {
-    let in_header = |index: usize, why: String| {
-        let at = header.starts[index] as u64;
-        let part = format!("{} in the header", NAMES[index]);
-        Some(Finding { at, part, why })
-    };
+    let in_header = |index: usize, why: String| Some(in_header(header, index, why));
     let (smallest, divisor, width) = (header.smallest(), header.divisor, header.width);
     let packing = header.packing()?;
+    if packing == Packing::Runs {
+        return runs::find(header, bytes);
+    }
     if header.count == 0 && header.least != 0 {
         return in_header(6, format!("{smallest}, and without pairs it is 0"));
     }
@@ -72,7 +78,7 @@ fn sum_up(header: &Header, packing: Packing, section: &[u8]) -> Result<Summary, 
     Ok(summary)
 }
 
-fn common_divisor(mut one: u64, mut other: u64) -> u64 {
+pub fn common_divisor(mut one: u64, mut other: u64) -> u64 {
     while one != 0 {
         (one, other) = (other % one, one);
     }
@@ -116,7 +122,7 @@ fn spare_bits(header: &Header, packing: Packing, section: &[u8], start: usize) -
 }
 
 /// The stored numbers, one after another.
-struct Stored<'a> {
+pub struct Stored<'a> {
     bytes: std::slice::Iter<'a, u8>,
     packing: Packing,
     width: u32,
@@ -126,7 +132,7 @@ struct Stored<'a> {
 }
 
 impl<'a> Stored<'a> {
-    fn new(section: &'a [u8], packing: Packing, width: u32) -> Self {
+    pub fn new(section: &'a [u8], packing: Packing, width: u32) -> Self {
         Self {
             bytes: section.iter(),
             packing,
@@ -136,11 +142,14 @@ impl<'a> Stored<'a> {
         }
     }
 
-    fn next(&mut self) -> Option<u64> {
+    pub fn next(&mut self) -> Option<u64> {
+        if self.width == 0 {
+            return Some(0);
+        }
         while self.left < self.width {
             let byte = u128::from(*self.bytes.next()?);
             self.bits = match self.packing {
-                Packing::HighFirst => self.bits << 8 | byte,
+                Packing::HighFirst | Packing::Runs => self.bits << 8 | byte,
                 Packing::LowFirst => self.bits | byte << self.left,
             };
             self.left += 8;
@@ -148,7 +157,9 @@ impl<'a> Stored<'a> {
         self.left -= self.width;
         // The number is at the high end of the bits, or at the low one.
         let (number, rest) = match self.packing {
-            Packing::HighFirst => (self.bits >> self.left, self.bits & ((1 << self.left) - 1)),
+            Packing::HighFirst | Packing::Runs => {
+                (self.bits >> self.left, self.bits & ((1 << self.left) - 1))
+            }
             Packing::LowFirst => (self.bits, self.bits >> self.width),
         };
         self.bits = rest;

@@ -1,0 +1,2 @@
+-- What a search says.
+pub mod Sought

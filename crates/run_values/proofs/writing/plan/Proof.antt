@@ -1,0 +1,13 @@
+-- `run_values::plan` meets its contract. Assumes nothing.
+use Rattle.format.specs.Kit.{sym, needs}
+use Rattle.format.proofs.Editions.{runs-fields}
+use Rattle.run_values.proofs.writing.plan.Statement.{statement}
+use Rattle.run_values.proofs.writing.plan.Tie as tie
+
+returns : tie.Need-returns
+returns c =
+    let s = c .scale-of .ensures in
+    (rw (s .divisor-is) (sym (runs-fields (c .before .args .values .now))), s .fit)
+
+pub plan-spec : {M : Type 1} → statement M
+plan-spec = tie.close (tie.spec (λ c κs. search needs) returns)
