@@ -22,8 +22,8 @@ static const struct named refusals[] = {
     {"SHORT", "the bytes end within the header: the column is empty or cut off (the number is their count)"},
     {"NUMBER", "a number of the header is not in its shortest form or needs more than 64 bits: "
                "the header is damaged, or this is no column (the number is the bad byte's place, from 0)"},
-    {"EDITION", "the edition is not 1, 2 or 3, or not 3 where a value is searched for: this is no column, or one "
-                "of another edition"},
+    {"EDITION", "the edition is not 1 to 4, or not 3 where a value is searched for: this is no column, or one of "
+                "another edition"},
     {"HEADER", "the numbers of the header break a rule (a limit, or sizes that do not agree)"},
     {"LENGTH", "the header tells of more or fewer bytes than there are: the column is cut off or "
                "something follows it"},
@@ -32,6 +32,8 @@ static const struct named refusals[] = {
     {"ID", "the id asked for is above the greatest allowed, 2147352575"},
     {"BROKEN", "the look-up met bytes that cannot be right: the column is damaged"},
     {"BACK", "the target is below the last one answered: from a cursor, targets stand still or grow"},
+    {"PLAN", "the plan is rejected: a table has 2 to 256 entries that ascend, each value and no other, and makes "
+             "the column shorter than edition 1 does"},
 };
 
 static const struct named no_refusal = {"UNKNOWN", "no refusal has this number"};

@@ -2,8 +2,9 @@
  * Signalfern: score columns.
  *
  * A column is a byte string that holds n pairs: an id (0 to 2147352575, strictly ascending) and a
- * signed 64-bit value. It can be written, checked, read whole, asked for one id or for a page of them,
- * walked over from id to id, searched for a value, and overlaid with a correction. x86-64 Linux.
+ * signed 64-bit value. It can be written, by a plan too, checked, read whole, asked for one id or for a
+ * page of them, walked over from id to id, searched for a value, and overlaid with a correction. x86-64
+ * Linux.
  *
  *     cc program.c $(pkg-config --cflags --libs signalfern)     after `make install`
  *
@@ -22,8 +23,9 @@
  *   NULL only where its length is 0; it is then not followed.
  * - A pointer is aligned as its type asks: 4 bytes for uint32_t, 8 for int64_t and uint64_t, none for
  *   uint8_t. This holds where the length is 0 too (NULL is aligned).
- * - What a call writes to (out; ids and values of a reading; ordinals, values and kinds of a page)
- *   overlaps nothing else that is lent to the same call, and no other thread uses it during the call.
+ * - What a call writes to (out; ids and values of a reading; ordinals, values and kinds of a page; the
+ *   planner's table) overlaps nothing else that is lent to the same call, and no other thread uses it
+ *   during the call.
  *   What a call only reads may be read by others at the same time. No lent array takes up more than
  *   2^63 - 1 bytes.
  * - Nothing is allocated, nothing is kept between calls, and no call waits.
@@ -62,6 +64,10 @@ extern "C" {
                                 width and a smallest value of its own; a directory before them tells these
                                 and the greatest value of each run. Packed as edition 1 */
 #define SIGNALFERN_RUN_LENGTH 16384u
+#define SIGNALFERN_TABLE 4u  /* a table of the distinct values, 2 to SIGNALFERN_MAX_TABLE of them, and for each
+                                pair its value's place there, in the least width for the last place. Packed
+                                as edition 1, and only where the column is then shorter than edition 1's */
+#define SIGNALFERN_MAX_TABLE 256u
 
 /*
  * Refusals. The number with a refusal is 0 where nothing else is said.
@@ -81,17 +87,19 @@ enum {
                                 is not the one that signalfern_first_between is for */
     SIGNALFERN_HEADER = 10,  /* a header rule is broken */
     SIGNALFERN_LENGTH = 11,  /* header, id section and value section are not the byte count */
-    SIGNALFERN_BUFFER = 12,  /* the ids or the values buffer is shorter than n, or a list for a page's
-                                answers shorter than its ids; with the places needed */
+    SIGNALFERN_BUFFER = 12,  /* the ids or the values buffer is shorter than n, a list for a page's answers
+                                shorter than its ids, or a table for the planner shorter than
+                                SIGNALFERN_MAX_TABLE; with the places needed */
     SIGNALFERN_DAMAGED = 13, /* the bytes are no column of any pair list */
     SIGNALFERN_ID = 14,      /* the looked-up id, or the target, is above SIGNALFERN_MAX_ID */
     SIGNALFERN_BROKEN = 15,  /* a step of the look-up fails: the bytes are damaged. In edition 3 a run's
                                 width above 64 and a stored number that reaches past the section are such
-                                failures too */
-    SIGNALFERN_BACK = 16     /* the target is below the last one answered */
+                                failures too, in edition 4 a place past the table's end */
+    SIGNALFERN_BACK = 16,    /* the target is below the last one answered */
+    SIGNALFERN_PLAN = 17     /* the plan is rejected: see signalfern_write_planned */
 };
 
-/* What signalfern_write, signalfern_check and signalfern_read answer. */
+/* What signalfern_write, signalfern_check, signalfern_read and the calls on plans and sets answer. */
 typedef struct {
     uint64_t refusal; /* 0: done. Otherwise the refusal. */
     uint64_t number;  /* Done: see the call. Otherwise the number with the refusal. */
@@ -126,7 +134,7 @@ typedef struct {
 typedef struct {
     uint64_t refusal;     /* 0: opened. Otherwise the refusal: 7 to 11. */
     uint64_t number;      /* Opened: 0. Otherwise the number with the refusal. */
-    uint64_t edition;     /* the edition: SIGNALFERN_PLAIN, SIGNALFERN_LUCENE or SIGNALFERN_RUNS */
+    uint64_t edition;     /* the edition: SIGNALFERN_PLAIN, _LUCENE, _RUNS or _TABLE */
     uint64_t count;       /* n, the count of pairs */
     uint64_t power;       /* p, the rank power: 0 or 7 to 15 */
     uint64_t id_bytes;    /* L, the bytes of the id section */
@@ -134,8 +142,10 @@ typedef struct {
     uint64_t width;       /* w, the bits of a stored number: 0 to 64, of which edition 2 has some only;
                              0 in edition 3, whose runs have their own */
     uint64_t smallest;    /* the smallest value v as the header has it: 2v, or -2v-1 if v < 0;
-                             signalfern_smallest gives v; 0 in edition 3, whose runs have their own */
-    uint64_t divisor;     /* g, the divisor of the values' differences: at least 1 */
+                             signalfern_smallest gives v; 0 in edition 3, whose runs have their own, and
+                             in edition 4, whose table has all values */
+    uint64_t divisor;     /* g, the divisor of the values' differences: at least 1; in edition 4 the count
+                             of the table's entries */
     uint64_t value_bytes; /* V, the bytes of the value section */
     uint64_t start;       /* the bytes of the header: where the id section starts */
 } signalfern_column;
@@ -217,9 +227,12 @@ typedef struct {
 /*
  * Writes the column of the pairs (ids[i], values[i]) to the front of out.
  *
- * edition is SIGNALFERN_PLAIN, SIGNALFERN_LUCENE or SIGNALFERN_RUNS. power is the rank power: 0 for none,
- * or 7 to 15 for one rank to every 2^power places of a dense block (SIGNALFERN_USUAL_POWER is a good
- * choice).
+ * edition is SIGNALFERN_PLAIN, SIGNALFERN_LUCENE, SIGNALFERN_RUNS or SIGNALFERN_TABLE. power is the rank
+ * power: 0 for none, or 7 to 15 for one rank to every 2^power places of a dense block
+ * (SIGNALFERN_USUAL_POWER is a good choice).
+ *
+ * Told SIGNALFERN_TABLE, it writes by what signalfern_plan proposes: a column of edition 4, or of edition 1
+ * where no table makes it shorter. signalfern_open tells which it is.
  *
  * Done: number is the column's byte count; exactly these bytes of out were written, and those after
  * them stay as they were. Refused: the first that applies of 1, 9, 2, 3, 4 and 6, and out stays as it
@@ -231,13 +244,38 @@ signalfern_reply signalfern_write(const uint32_t *ids, size_t ids_len,
                                   uint8_t *out, size_t out_len);
 
 /*
+ * Writes the column of the pairs by a plan: a table of their distinct values gives edition 4, and an empty
+ * one (table_len 0), which is plain, gives edition 1. Anybody may have made the plan: it is checked.
+ *
+ * Plain is always accepted; a table exactly if it has 2 to SIGNALFERN_MAX_TABLE entries, ascends strictly,
+ * holds every value, has no entry that is no value, and the column is shorter than that of edition 1.
+ *
+ * Done: as signalfern_write. Refused: the first that applies of 1, 2, 3, 4, 17 and 6, and out stays as it
+ * was.
+ */
+signalfern_reply signalfern_write_planned(const uint32_t *ids, size_t ids_len,
+                                          const int64_t *values, size_t values_len,
+                                          const int64_t *table, size_t table_len,
+                                          uint32_t power, uint8_t *out, size_t out_len);
+
+/*
+ * Proposes a plan for these values: a table wherever signalfern_write_planned accepts one, else plain.
+ *
+ * Done: number is how many entries the table has, 0 for plain; exactly so many first places of table were
+ * written. Refused: 12 with SIGNALFERN_MAX_TABLE where table_len is less, and table stays as it was.
+ */
+signalfern_reply signalfern_plan(const int64_t *values, size_t values_len,
+                                 int64_t *table, size_t table_len);
+
+/*
  * Tells whether the bytes are a column, to the last bit.
  *
  * Done: number is n, and there is just one pair list with this column. Refused: 7 to 11, then 13.
  * The time grows with the bytes, not with n: a column of 393 KB may hold 2147352576 pairs.
  *
- * Accepted bytes are what signalfern_write gives for some list. That it is the list that was meant
- * no check can tell: the format has no checksum, and a changed value can be another valid column's.
+ * Accepted bytes are what signalfern_write gives for some list; so edition 4 is accepted only where its
+ * table makes the column shorter. That it is the list that was meant no check can tell: the format has no
+ * checksum, and a changed value can be another valid column's.
  */
 signalfern_reply signalfern_check(const uint8_t *bytes, size_t len);
 

@@ -148,7 +148,8 @@ pub(crate) fn answer(answer: ffi::Answer) -> Result<Answer, Refusal> {
 ///
 /// The first that applies of [`Refusal::Lengths`], [`Refusal::Power`], [`Refusal::Order`],
 /// [`Refusal::Range`] and [`Refusal::Room`]; `out` then stays as it was. ([`Refusal::Edition`] comes
-/// after the first of them, and cannot come here: there is no `Edition` that is none.)
+/// after the first of them, and cannot come here: there is no `Edition` that is none. Nor does
+/// [`Refusal::Plan`]: told [`Edition::Table`], the writer goes by [`plan()`](crate::plan()).)
 pub fn write(
     ids: &[u32],
     values: &[i64],
@@ -184,13 +185,20 @@ pub fn write_to_vec(
     edition: Edition,
     power: u32,
 ) -> Result<Vec<u8>, Error> {
-    let mut column = match write(ids, values, edition, power, &mut []) {
+    to_vec(|out| write(ids, values, edition, power, out))
+}
+
+/// What `write` puts into a vector of just the bytes that it asks for.
+pub(crate) fn to_vec(
+    write: impl Fn(&mut [u8]) -> Result<usize, Refusal>,
+) -> Result<Vec<u8>, Error> {
+    let mut out = match write(&mut []) {
         Err(Refusal::Room { needed }) => places(needed)?,
         Err(refusal) => return Err(refusal.into()),
-        Ok(_) => unreachable!("no column is empty"),
+        Ok(_) => unreachable!("no column and no set is empty of bytes"),
     };
-    write(ids, values, edition, power, &mut column)?;
-    Ok(column)
+    write(&mut out)?;
+    Ok(out)
 }
 
 /// Writes the column of pairs from an iterator, in ascending order of their ids. See [`write()`].

@@ -135,13 +135,14 @@ impl<'a> Column<'a> {
     }
 
     /// w, the bits of a stored number: 0 to 64, of which edition 2 has some only. In edition 3 it is 0:
-    /// its runs have their own.
+    /// its runs have their own. In edition 4 it is that of a place in the table.
     #[must_use]
     pub const fn width(&self) -> u64 {
         self.numbers.width
     }
 
-    /// The smallest value. In edition 3 it is 0: its runs have their own.
+    /// The smallest value. In edition 3 it is 0, since its runs have their own, and in edition 4, whose table
+    /// has all values.
     ///
     /// ```
     /// use signalfern::Edition;
@@ -155,7 +156,8 @@ impl<'a> Column<'a> {
         decoded(self.numbers.smallest)
     }
 
-    /// g, the divisor of the values' differences: at least 1.
+    /// g, the divisor of the values' differences: at least 1. In edition 4 it is the count of the table's
+    /// entries.
     #[must_use]
     pub const fn divisor(&self) -> u64 {
         self.numbers.divisor
@@ -217,9 +219,9 @@ pub struct Header {
     pub jump_count: u64,
     /// w, the bits of a stored number.
     pub width: u64,
-    /// The smallest value.
+    /// The smallest value; 0 in editions 3 and 4.
     pub smallest: i64,
-    /// g, the divisor of the values' differences: at least 1.
+    /// g, the divisor of the values' differences, at least 1; in edition 4 the count of the table's entries.
     pub divisor: u64,
     /// V, the bytes of the value section.
     pub value_bytes: u64,

@@ -46,6 +46,31 @@ pub enum Edition {
     /// # Ok::<(), signalfern::Error>(())
     /// ```
     Runs,
+    /// Edition 4: a table of the distinct values, 2 to [`MAX_TABLE`](crate::MAX_TABLE) of them, and for each pair
+    /// its value's place there, packed as edition 1 in the least width for the last place. For columns of few
+    /// distinct values that lie far apart.
+    ///
+    /// A column has this edition only where it is then shorter than in edition 1. A writer that is told it
+    /// writes edition 1 where that is not so; [`write_planned`](crate::write_planned) takes the table from its
+    /// caller and refuses it there.
+    ///
+    /// ```
+    /// use signalfern::{Column, Edition};
+    ///
+    /// let ids: Vec<u32> = (0..1000).collect();
+    /// let values: Vec<i64> = ids.iter().map(|id| [0, 1, 100, 1 << 40][*id as usize % 4]).collect();
+    /// let plain = signalfern::write_to_vec(&ids, &values, Edition::Plain, 9)?;
+    /// let table = signalfern::write_to_vec(&ids, &values, Edition::Table, 9)?;
+    /// assert_eq!(Column::open(&plain)?.value_bytes(), 41 * 1000 / 8);
+    /// assert_eq!(Column::open(&table)?.value_bytes(), 4 * 8 + 2 * 1000 / 8);
+    /// assert_eq!(signalfern::read_to_vecs(&table)?, (ids, values));
+    ///
+    /// // Two bits of two pairs are less than any table.
+    /// let few = signalfern::write_to_vec(&[1, 2], &[5, 6], Edition::Table, 9)?;
+    /// assert_eq!(Column::open(&few)?.edition(), Edition::Plain);
+    /// # Ok::<(), signalfern::Error>(())
+    /// ```
+    Table,
 }
 
 impl Edition {
@@ -64,6 +89,7 @@ impl Edition {
             1 => Some(Self::Plain),
             2 => Some(Self::Lucene),
             3 => Some(Self::Runs),
+            4 => Some(Self::Table),
             _ => None,
         }
     }
@@ -75,6 +101,7 @@ impl Edition {
             Self::Plain => 1,
             Self::Lucene => 2,
             Self::Runs => 3,
+            Self::Table => 4,
         }
     }
 }

@@ -103,7 +103,8 @@ impl From<Refusal> for io::Error {
             | Refusal::Room { .. }
             | Refusal::Buffer { .. }
             | Refusal::Id
-            | Refusal::Back => io::ErrorKind::InvalidInput,
+            | Refusal::Back
+            | Refusal::Plan => io::ErrorKind::InvalidInput,
         };
         Self::new(kind, refusal)
     }

@@ -121,6 +121,23 @@ extern "C" {
         out: *mut u8,
         out_len: usize,
     ) -> Reply;
+    fn signalfern_write_planned(
+        ids: *const u32,
+        ids_len: usize,
+        values: *const i64,
+        values_len: usize,
+        table: *const i64,
+        table_len: usize,
+        power: u32,
+        out: *mut u8,
+        out_len: usize,
+    ) -> Reply;
+    fn signalfern_plan(
+        values: *const i64,
+        values_len: usize,
+        table: *mut i64,
+        table_len: usize,
+    ) -> Reply;
     fn signalfern_check(bytes: *const u8, len: usize) -> Reply;
     fn signalfern_read(
         bytes: *const u8,
@@ -217,6 +234,35 @@ pub(crate) fn write(
             out.len(),
         )
     }
+}
+
+pub(crate) fn write_planned(
+    ids: &[u32],
+    values: &[i64],
+    table: &[i64],
+    power: u32,
+    out: &mut [u8],
+) -> Reply {
+    // SAFETY: four slices with their own lengths; `out` is borrowed for this call alone.
+    unsafe {
+        signalfern_write_planned(
+            ids.as_ptr(),
+            ids.len(),
+            values.as_ptr(),
+            values.len(),
+            table.as_ptr(),
+            table.len(),
+            power,
+            out.as_mut_ptr(),
+            out.len(),
+        )
+    }
+}
+
+pub(crate) fn plan(values: &[i64], table: &mut [i64]) -> Reply {
+    let (v, t) = (values, table);
+    // SAFETY: two slices with their own lengths; `table` is borrowed for this call alone.
+    unsafe { signalfern_plan(v.as_ptr(), v.len(), t.as_mut_ptr(), t.len()) }
 }
 
 pub(crate) fn check(bytes: &[u8]) -> Reply {

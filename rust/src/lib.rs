@@ -1,13 +1,14 @@
 //! Score columns: byte strings that hold pairs of an id and a signed 64-bit value, with the ids
 //! strictly ascending.
 //!
-//! There are ten calls on columns: [`write()`] a column, [`check`] one, [`read`] it whole, [`look_up`] one
-//! id or a page of them ([`look_up_page`]), find the [`next()`] listed one, find the first value in a range
-//! ([`first_between`]), look an id up in a column with a correction on top ([`look_up_layered`]) and show
-//! the bytes that hold it ([`layered_values`]), and [`Column::open`] for many such questions to the same
-//! columns. Each is a thin wrapper of a call that is written and proved in Rattle: its answer, its refusal
-//! and every lent byte afterwards are those that document 01 ("Full scope and exact rules") and the
-//! requests of document 02 fix, on every input.
+//! There are twelve calls on columns: [`write()`] a column, or by a plan ([`write_planned`]), which a
+//! planner proposes ([`plan()`]), [`check`] one, [`read`] it whole, [`look_up`] one id or a page of them
+//! ([`look_up_page`]), find the [`next()`] listed one, find the first value in a range ([`first_between`]),
+//! look an id up in a column with a correction on top ([`look_up_layered`]) and show the bytes that hold it
+//! ([`layered_values`]), and [`Column::open`] for many such questions to the same columns. Each is a thin
+//! wrapper of a call that is written and proved in Rattle: its answer, its refusal and every lent byte
+//! afterwards are those that document 01 ("Full scope and exact rules") and the requests of document 02
+//! fix, on every input.
 //! This wrapper, the C boundary below it and the compiler's back end are not proved; they are tested.
 //!
 //! Most programs want [`Checked`]: a column that was checked once, as a sorted map from ids to
@@ -34,7 +35,7 @@
 //!
 //! # Refusals
 //!
-//! What cannot be done is refused with one of fifteen [`Refusal`]s, tested in a fixed order, and a
+//! What cannot be done is refused with one of sixteen [`Refusal`]s, tested in a fixed order, and a
 //! refusal changes no lent byte.
 //!
 //! ```
@@ -61,6 +62,7 @@ mod layered;
 mod next;
 mod page;
 mod pairs;
+mod plan;
 mod refusal;
 mod section;
 mod set;
@@ -76,6 +78,7 @@ pub use layered::{layered_values, look_up_layered, Layer, Layered, LayeredAnswer
 pub use next::{next, Candidate, Candidates, Cursor};
 pub use page::{look_up_page, look_up_page_to_vec, Page, PageAnswer};
 pub use pairs::Pairs;
+pub use plan::{plan, plan_to_vec, write_planned, write_planned_to_vec};
 pub use refusal::Refusal;
 pub use section::{ByteOrder, Fault, Reason, Section};
 pub use set::{set_check, set_find, set_write, set_write_to_vec, Set};
@@ -88,6 +91,9 @@ pub const MAX_COUNT: u64 = 2_147_352_576;
 
 /// How many values a run of [`Edition::Runs`] has; the last one may have fewer.
 pub const RUN_LENGTH: usize = 16_384;
+
+/// How many entries a table of [`Edition::Table`] can have.
+pub const MAX_TABLE: usize = 256;
 
 /// The rank power that fits most columns, and Lucene's: a rank to every 512 places of a dense block.
 pub const USUAL_POWER: u32 = 9;

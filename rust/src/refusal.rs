@@ -1,9 +1,9 @@
-//! The fifteen refusals.
+//! The sixteen refusals.
 
 use std::error::Error;
 use std::fmt;
 
-/// Why a call refused. The order is that of document 01's table, and document 02 adds the last. 5 is
+/// Why a call refused. The order is that of document 01's table, and document 02 adds the last two. 5 is
 /// not used: it was OFFSET, which cannot happen (document 02, request 7).
 #[derive(Clone, Copy, Debug, PartialEq, Eq, Hash)]
 #[non_exhaustive]
@@ -46,10 +46,11 @@ pub enum Refusal {
     Header,
     /// Header, id section and value section together are not the byte count.
     Length,
-    /// The ids or the values buffer is shorter than the column's count of pairs, or a list for a page's
-    /// answers is shorter than its ids.
+    /// The ids or the values buffer is shorter than the column's count of pairs, a list for a page's
+    /// answers is shorter than its ids, or a table for the planner shorter than
+    /// [`MAX_TABLE`](crate::MAX_TABLE).
     Buffer {
-        /// The count of pairs that the header claims, or that of the ids.
+        /// The count of pairs that the header claims, that of the ids, or `MAX_TABLE`.
         needed: usize,
     },
     /// The bytes are no column of any pair list.
@@ -60,6 +61,8 @@ pub enum Refusal {
     Broken,
     /// The target is below the last one answered.
     Back,
+    /// The plan is rejected: see [`write_planned`](crate::write_planned).
+    Plan,
 }
 
 impl Refusal {
@@ -95,6 +98,7 @@ impl Refusal {
             14 => Self::Id,
             15 => Self::Broken,
             16 => Self::Back,
+            17 => Self::Plan,
             _ => return None,
         })
     }
@@ -105,7 +109,7 @@ impl Refusal {
             .unwrap_or_else(|| panic!("libsignalfern_c gave refusal {number}, unknown here"))
     }
 
-    /// The number in documents 01 and 02, 1 to 16 without 5.
+    /// The number in documents 01 and 02, 1 to 17 without 5.
     #[must_use]
     pub const fn number(self) -> u64 {
         match self {
@@ -125,6 +129,7 @@ impl Refusal {
             Self::Id => 14,
             Self::Broken => 15,
             Self::Back => 16,
+            Self::Plan => 17,
         }
     }
 
@@ -162,6 +167,7 @@ impl Refusal {
             Self::Id => "ID",
             Self::Broken => "BROKEN",
             Self::Back => "BACK",
+            Self::Plan => "PLAN",
         }
     }
 }
@@ -196,8 +202,8 @@ impl fmt::Display for Refusal {
             ),
             Self::Edition => write!(
                 f,
-                "the edition is not 1, 2 or 3, or not 3 where a value is searched for: this is no \
-                 column, or one of another edition"
+                "the edition is not 1 to 4, or not 3 where a value is searched for: this is no column, or \
+                 one of another edition"
             ),
             Self::Header => write!(
                 f,
@@ -229,6 +235,12 @@ impl fmt::Display for Refusal {
                 f,
                 "the target is below the last one answered: from a cursor, targets stand still or grow"
             ),
+            Self::Plan => write!(
+                f,
+                "the plan is rejected: a table has 2 to {} entries that ascend, each value and no other, and \
+                 makes the column shorter than edition 1 does",
+                crate::MAX_TABLE
+            ),
         }
     }
 }
@@ -241,7 +253,7 @@ mod tests {
 
     #[test]
     fn numbers_go_there_and_back() {
-        for number in (1..=4).chain(6..=16) {
+        for number in (1..=4).chain(6..=17) {
             let refusal = Refusal::given(number, 77);
             assert_eq!(Refusal::from_number(number, 77), Some(refusal));
             assert_eq!(refusal.number(), number);
@@ -254,14 +266,14 @@ mod tests {
 
     #[test]
     fn a_number_outside_the_table_is_no_refusal() {
-        for number in [0, 5, 17, u64::MAX] {
+        for number in [0, 5, 18, u64::MAX] {
             assert_eq!(Refusal::from_number(number, 0), None);
         }
     }
 
     #[test]
-    #[should_panic = "gave refusal 17"]
+    #[should_panic = "gave refusal 18"]
     fn an_archive_that_refuses_otherwise_is_no_match() {
-        let _ = Refusal::given(17, 0);
+        let _ = Refusal::given(18, 0);
     }
 }

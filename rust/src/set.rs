@@ -2,7 +2,7 @@
 
 use std::fmt;
 
-use crate::calls::{len, number, places};
+use crate::calls::{len, number, to_vec};
 use crate::{ffi, Error, Refusal};
 
 /// Writes the set of the ids to the front of `out`, and gives its byte count. The bytes of `out` after
@@ -40,13 +40,7 @@ pub fn set_write(ids: &[u32], out: &mut [u8]) -> Result<usize, Refusal> {
 ///
 /// [`Error::Refused`] with those of [`set_write`], but for [`Refusal::Room`]; [`Error::Memory`].
 pub fn set_write_to_vec(ids: &[u32]) -> Result<Vec<u8>, Error> {
-    let mut set = match set_write(ids, &mut []) {
-        Err(Refusal::Room { needed }) => places(needed)?,
-        Err(refusal) => return Err(refusal.into()),
-        Ok(_) => unreachable!("no set is empty of bytes"),
-    };
-    set_write(ids, &mut set)?;
-    Ok(set)
+    to_vec(|out| set_write(ids, out))
 }
 
 /// Tells whether the bytes are a set to the last bit, and gives its count of ids.

@@ -10,10 +10,11 @@ use crate::{Column, Edition, RUN_LENGTH};
 pub(crate) struct Values<'a> {
     edition: Edition,
     divisor: u64,
-    /// The directory of edition 3, and all that stands after it. The other editions have one run.
-    directory: &'a [u8],
+    /// The directory of edition 3 or the table of edition 4, and all that stands after it.
+    front: &'a [u8],
     packed: &'a [u8],
-    /// The stored numbers from the current run on, its ordinals, its width and its smallest value.
+    /// The stored numbers from the current run on, its ordinals, its width and its smallest value. Editions
+    /// other than 3 have one run.
     numbers: &'a [u8],
     run: Range<usize>,
     width: u32,
@@ -22,20 +23,23 @@ pub(crate) struct Values<'a> {
 }
 
 /// Bytes of a run in the directory: smallest, greatest, start and width.
-const ENTRY: usize = 25;
+const SUMMARY: usize = 25;
+/// Bytes of an entry of a table.
+const ENTRY: usize = 8;
 
 impl<'a> Values<'a> {
     pub fn of(column: &Column<'a>, section: &'a [u8], ordinal: usize) -> Self {
-        let (runs, run) = match column.edition() {
+        let (front, run) = match column.edition() {
             // The first value enters its run.
-            Edition::Runs => (column.len().div_ceil(RUN_LENGTH), 0..0),
-            _ => (0, 0..usize::MAX),
+            Edition::Runs => (SUMMARY * column.len().div_ceil(RUN_LENGTH), 0..0),
+            Edition::Table => (ENTRY * column.divisor() as usize, 0..usize::MAX),
+            Edition::Plain | Edition::Lucene => (0, 0..usize::MAX),
         };
-        let (directory, packed) = section.split_at(ENTRY * runs);
+        let (front, packed) = section.split_at(front);
         Self {
             edition: column.edition(),
             divisor: column.divisor(),
-            directory,
+            front,
             packed,
             numbers: packed,
             run,
@@ -49,23 +53,26 @@ impl<'a> Values<'a> {
     #[inline(never)]
     fn enter_run(&mut self) {
         let run = self.ordinal / RUN_LENGTH;
-        let entry = &self.directory[ENTRY * run..][..ENTRY];
-        let eight = |at: usize| *entry[at..].first_chunk().expect("eight bytes");
+        let summary = &self.front[SUMMARY * run..][..SUMMARY];
         self.run = RUN_LENGTH * run..RUN_LENGTH * (run + 1);
-        self.smallest = i64::from_le_bytes(eight(0));
-        self.numbers = &self.packed[u64::from_le_bytes(eight(16)) as usize..];
-        self.width = u32::from(entry[ENTRY - 1]);
+        self.smallest = i64::from_le_bytes(eight(summary));
+        self.numbers = &self.packed[u64::from_le_bytes(eight(&summary[16..])) as usize..];
+        self.width = u32::from(summary[SUMMARY - 1]);
     }
 
-    /// The smallest value plus the divisor times the stored number: the check saw that it fits.
+    /// The smallest value plus the divisor times the stored number: the check saw that it fits. In edition 4
+    /// the entry at the stored number: the check saw that there is one.
     #[inline]
     pub fn next(&mut self) -> i64 {
         if self.ordinal >= self.run.end {
             self.enter_run();
         }
-        let offset = self.divisor.wrapping_mul(self.stored());
+        let stored = self.stored();
         self.ordinal += 1;
-        self.smallest.wrapping_add_unsigned(offset)
+        match self.edition {
+            Edition::Table => i64::from_le_bytes(eight(&self.front[ENTRY * stored as usize..])),
+            _ => (self.smallest).wrapping_add_unsigned(self.divisor.wrapping_mul(stored)),
+        }
     }
 
     /// The stored number of the ordinal: `width` bits, in the edition's order.
@@ -77,10 +84,16 @@ impl<'a> Values<'a> {
         let bit = (self.ordinal - self.run.start) * self.width as usize;
         let (bytes, skip) = (&self.numbers[bit / 8..], bit % 8);
         match self.edition {
-            Edition::Plain | Edition::Runs => high_first(bytes, skip, self.width),
             Edition::Lucene => low_first(bytes, skip, self.width),
+            _ => high_first(bytes, skip, self.width),
         }
     }
+}
+
+/// The first eight bytes, which are there.
+#[inline]
+fn eight(bytes: &[u8]) -> [u8; 8] {
+    *bytes.first_chunk().expect("eight bytes")
 }
 
 /// A number of 1 to 64 bits after `skip` bits, high bit first.

@@ -157,7 +157,7 @@ fn headers_that_nobody_read() {
                     made.count = random.below(9) as u64;
                     made.width = random.below(9) as u64;
                 }
-                11 => made.edition = random.pick(&[0, 1, 2, 3, 4, wild]),
+                11 => made.edition = random.pick(&[0, 1, 2, 3, 4, 5, wild]),
                 _ => made = signalfern::Header::default(),
             }
             if random.one_in(2) && made.count <= 1 << 32 && made.width <= 64 {

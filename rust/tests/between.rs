@@ -235,7 +235,7 @@ fn what_is_refused_in_which_order() {
     let mut other = opened;
     other.power = 6;
     assert_eq!(from(other, &column[1..]), Err(Refusal::Header));
-    for edition in [0, 1, 2, 4, u64::MAX] {
+    for edition in [0, 1, 2, 4, 5, u64::MAX] {
         other.edition = edition;
         assert_eq!(from(other, &column[1..]), Err(Refusal::Edition));
     }

@@ -63,14 +63,14 @@ static int pages(void)
 /* The editions: what the writer is told, and what a column of each is. Stored are 3, 1 and 0. */
 static int editions(void)
 {
-    PROMISE(SIGNALFERN_PLAIN == 1 && SIGNALFERN_LUCENE == 2 && SIGNALFERN_RUNS == 3);
+    PROMISE(SIGNALFERN_PLAIN == 1 && SIGNALFERN_LUCENE == 2 && SIGNALFERN_RUNS == 3 && SIGNALFERN_TABLE == 4);
     const uint32_t ids[] = {0, 2, 7}, twice[] = {4, 4};
     const int64_t values[] = {150, 140, 135};
     uint8_t out[64], before[64];
     memset(out, 0x5A, sizeof out);
     memcpy(before, out, sizeof out);
     /* Any other is refused with 9, after the lengths and before the power. */
-    const uint32_t none[] = {0, 4, 5, 257, UINT32_MAX};
+    const uint32_t none[] = {0, 5, 6, 257, UINT32_MAX};
     for (size_t i = 0; i < sizeof none / sizeof none[0]; i++) {
         signalfern_reply reply = signalfern_write(twice, 2, values, 3, none[i], 6, out, sizeof out);
         PROMISE(reply.refusal == SIGNALFERN_LENGTHS && reply.number == 0);
@@ -98,6 +98,75 @@ static int editions(void)
     PROMISE(column.divisor == 5 && column.value_bytes == 26);
     PROMISE(same_answer(signalfern_look_up_in(column, out, 51, 2), SIGNALFERN_FOUND, 1, 140, 0, 1));
     PROMISE(signalfern_check(out, 51).number == 3);
+    /* No table makes these shorter: edition 1. */
+    reply = signalfern_write(ids, 3, values, 3, SIGNALFERN_TABLE, 9, out, sizeof out);
+    PROMISE(reply.refusal == 0 && reply.number == 27 && out[0] == 1 && out[26] == 0xD0);
+    return 0;
+}
+
+/* Plans: the bytes of a column, plain, refusals in their order, out and table that a refusal does not change. */
+static int plans(void)
+{
+    PROMISE(SIGNALFERN_MAX_TABLE == 256 && SIGNALFERN_PLAN == 17);
+    const uint32_t ids[] = {0, 2, 7, 9}, order[] = {4, 9, 9, 10}, range[] = {4, 9, 10, SIGNALFERN_MAX_ID + 1};
+    const int64_t values[] = {1, INT64_MIN, 0, 1}, table[] = {INT64_MIN, 0, 1}, turned[] = {1, 0, INT64_MIN};
+    uint8_t out[80], before[80];
+    memset(out, 0x5A, sizeof out);
+    memcpy(before, out, sizeof out);
+    const struct {
+        const uint32_t *ids;
+        size_t values_len;
+        const int64_t *table;
+        size_t table_len;
+        uint32_t power;
+        size_t room;
+        uint64_t refusal, number;
+    } refused[] = {
+        {order, 3, turned, 3, 6, 0, SIGNALFERN_LENGTHS, 0},
+        {order, 4, turned, 3, 6, 0, SIGNALFERN_POWER, 0},
+        {order, 4, turned, 3, 9, 0, SIGNALFERN_ORDER, 2},
+        {range, 4, turned, 3, 9, 0, SIGNALFERN_RANGE, 3},
+        {ids, 4, turned, 3, 9, 0, SIGNALFERN_PLAN, 0},
+        {ids, 4, turned, 1, 9, sizeof out, SIGNALFERN_PLAN, 0},
+        {ids, 4, table, 2, 9, sizeof out, SIGNALFERN_PLAN, 0},
+        {ids, 4, table, 3, 9, 51, SIGNALFERN_ROOM, 52},
+        {ids, 4, NULL, 0, 9, 67, SIGNALFERN_ROOM, 68},
+    };
+    for (size_t i = 0; i < sizeof refused / sizeof refused[0]; i++) {
+        signalfern_reply reply = signalfern_write_planned(refused[i].ids, 4, values, refused[i].values_len, refused[i].table,
+                                                          refused[i].table_len, refused[i].power, out, refused[i].room);
+        PROMISE(reply.refusal == refused[i].refusal && reply.number == refused[i].number);
+        PROMISE(memcmp(out, before, sizeof out) == 0);
+    }
+    signalfern_reply reply = signalfern_write_planned(ids, 4, values, 4, table, 3, 9, out, sizeof out);
+    PROMISE(reply.refusal == 0 && reply.number == 52 && memcmp(out + 52, before + 52, sizeof out - 52) == 0);
+    const uint8_t head[] = {4, 4, 9, 18, 0, 2, 0, 3, 25};
+    PROMISE(memcmp(out, head, sizeof head) == 0 && out[34] == 0x80 && out[43] == 1 && out[51] == 0x86);
+    PROMISE(signalfern_check(out, 52).number == 4);
+    signalfern_column column = signalfern_open(out, 52);
+    PROMISE(column.edition == SIGNALFERN_TABLE && column.width == 2 && column.smallest == 0 && column.divisor == 3);
+    PROMISE(same_answer(signalfern_look_up_in(column, out, 52, 2), SIGNALFERN_FOUND, 1, INT64_MIN, 0, 2));
+    PROMISE(signalfern_first_between(out, 52, 0, 1).kind == SIGNALFERN_EDITION);
+    /* The code of id 7 made 3, and the table has entries 0 to 2. */
+    out[51] |= 0x0C;
+    PROMISE(same_answer(signalfern_look_up(out, 52, 7), SIGNALFERN_BROKEN, 0, 0, 0, 0));
+    PROMISE(signalfern_check(out, 52).refusal == SIGNALFERN_DAMAGED);
+    reply = signalfern_write_planned(ids, 4, values, 4, NULL, 0, 9, out, sizeof out);
+    PROMISE(reply.refusal == 0 && reply.number == 68 && out[0] == SIGNALFERN_PLAIN);
+
+    int64_t plan[SIGNALFERN_MAX_TABLE + 1];
+    for (size_t i = 0; i < sizeof plan / sizeof plan[0]; i++)
+        plan[i] = 77;
+    reply = signalfern_plan(values, 4, plan, SIGNALFERN_MAX_TABLE - 1);
+    PROMISE(reply.refusal == SIGNALFERN_BUFFER && reply.number == SIGNALFERN_MAX_TABLE && plan[0] == 77);
+    reply = signalfern_plan(NULL, 0, NULL, 0);
+    PROMISE(reply.refusal == SIGNALFERN_BUFFER && reply.number == SIGNALFERN_MAX_TABLE);
+    reply = signalfern_plan(values, 4, plan, SIGNALFERN_MAX_TABLE + 1);
+    PROMISE(reply.refusal == 0 && reply.number == 3 && memcmp(plan, table, sizeof table) == 0 && plan[3] == 77);
+    /* Plain writes no entry. */
+    plan[0] = 77;
+    reply = signalfern_plan(values, 1, plan, SIGNALFERN_MAX_TABLE);
+    PROMISE(reply.refusal == 0 && reply.number == 0 && plan[0] == 77);
     return 0;
 }
 
@@ -155,7 +224,7 @@ static int between(void)
     PROMISE(same_between(signalfern_first_between_in(column, bytes, len, 7, 7), SIGNALFERN_FOUND, 0, 0));
     column.width = 1;
     PROMISE(same_between(signalfern_first_between_in(column, bytes, len - 1, 7, 7), SIGNALFERN_HEADER, 0, 0));
-    const uint64_t none[] = {0, SIGNALFERN_PLAIN, SIGNALFERN_LUCENE, 4, UINT64_MAX};
+    const uint64_t none[] = {0, SIGNALFERN_PLAIN, SIGNALFERN_LUCENE, SIGNALFERN_TABLE, 5, UINT64_MAX};
     for (size_t i = 0; i < sizeof none / sizeof none[0]; i++) {
         column.edition = none[i];
         PROMISE(same_between(signalfern_first_between_in(column, bytes, len - 1, 7, 7), SIGNALFERN_EDITION, 0, 0));
@@ -216,7 +285,7 @@ static int next_refusals(signalfern_column column, const uint8_t *bytes, size_t 
     PROMISE(cut.kind == SIGNALFERN_SHORT && cut.number == 1 && cut.id == 0 && cut.cursor.last == 7);
     /* Of any other column: the header rules, an edition that is none among them, then the length. */
     PROMISE(same_next(signalfern_next_in(column, seven, bytes, len - 1, 8), SIGNALFERN_LENGTH, 0, 0, 0, 7));
-    column.edition = 4;
+    column.edition = 5;
     PROMISE(same_next(signalfern_next_in(column, seven, bytes, len - 1, 8), SIGNALFERN_HEADER, 0, 0, 0, 7));
     PROMISE(same_next(signalfern_next_in(column, seven, bytes, len, 6), SIGNALFERN_BACK, 0, 0, 0, 7));
     PROMISE(same_next(signalfern_next_in(column, seven, bytes, len, SIGNALFERN_MAX_ID + 1), SIGNALFERN_ID, 0, 0, 0, 7));
@@ -373,7 +442,7 @@ static int refused_columns(void)
     PROMISE(same_part(signalfern_layered_values(NULL, 0, c, c_len, 6), SIGNALFERN_CORRECTION, c_len - 1, 1));
 
     signalfern_column x = signalfern_open(m, m_len), y = signalfern_open(c, c_len);
-    x.edition = 4;
+    x.edition = 5;
     PROMISE(same_layered(signalfern_look_up_layered_in(x, m, 0, y, c, c_len, 6), SIGNALFERN_FOUND, SIGNALFERN_CORRECTION, 0, -3));
     PROMISE(same_layered(signalfern_look_up_layered_in(x, m, 0, y, c, c_len, 4), SIGNALFERN_HEADER, SIGNALFERN_MACHINE, 0, 0));
     y.edition = 0;
@@ -468,7 +537,7 @@ int main(void)
     column.power = 7;
     PROMISE(same_answer(signalfern_look_up_in(column, out, len, 4), SIGNALFERN_FOUND, 0, -1, 0, 1));
     /* An edition that is none: a header rule, after the id and before the length. */
-    const uint64_t none[] = {0, 4, 5, 257, UINT64_MAX};
+    const uint64_t none[] = {0, 5, 6, 257, UINT64_MAX};
     for (size_t i = 0; i < sizeof none / sizeof none[0]; i++) {
         column.edition = none[i];
         PROMISE(same_answer(signalfern_look_up_in(column, out, len, 4), SIGNALFERN_HEADER, 0, 0, 0, 0));
@@ -483,6 +552,6 @@ int main(void)
     refused.refusal = SIGNALFERN_LENGTH;
     PROMISE(memcmp(&column, &refused, sizeof column) == 0);
     PROMISE(same_answer(signalfern_look_up_in(column, out, len, 4), SIGNALFERN_HEADER, 0, 0, 0, 0));
-    return editions() || pages() || next_candidates() || between() || corrections() || refused_columns() || sets() ||
-           sections();
+    return editions() || plans() || pages() || next_candidates() || between() || corrections() || refused_columns() ||
+           sets() || sections();
 }

@@ -109,7 +109,7 @@ fn memory_that_cannot_be_had_is_no_abort() {
 
 #[test]
 fn refusals_as_errors_of_io() {
-    for refusal in (1..=16).filter_map(|number| Refusal::from_number(number, 7)) {
+    for refusal in (1..=17).filter_map(|number| Refusal::from_number(number, 7)) {
         let error = io::Error::from(Error::from(refusal));
         assert_eq!(error.to_string(), refusal.to_string());
         // Bytes that are no column; or another input that is wrong.

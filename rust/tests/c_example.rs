@@ -94,6 +94,27 @@ from 0 to 9: refused, EDITION
 }
 
 #[test]
+fn the_example_of_a_plan() {
+    let printed = build_and_run(Path::new("examples/plan.c"), &["-std=c99"]);
+    // Three entries of 8 bytes and 1000 codes of 2 bits; without a table 30 bits for each.
+    let expected = format!(
+        "\
+code 0: -1
+code 1: 0
+code 2: 1000000007
+by the plan: edition 4, {} bytes of values
+  id 7: value -1
+plain: edition 1, {} bytes of values
+  id 7: value -1
+by another: refused, PLAN
+",
+        3 * 8 + 1000 * 2 / 8,
+        1000 * 30 / 8
+    );
+    assert_eq!(printed, expected);
+}
+
+#[test]
 fn the_boundary_is_as_the_header_says() {
     build_and_run(Path::new("rust/tests/boundary.c"), &["-std=c11"]);
 }

@@ -185,11 +185,12 @@ fn every_id_that_there_is() {
 fn damage_makes_no_checked_column() {
     let listed = Listed::new(vec![0, 2, 7], vec![150, 140, 135], Edition::Plain, 9);
     for (at, bits, refusal) in [
-        (0, 4, Refusal::Edition),
+        (0, 8, Refusal::Edition),
         // Of edition 2: D0 has the bits 00 00 10 low first, and 11 in the spare ones.
         (0, 3, Refusal::Damaged),
-        // Of edition 3, whose header has no width.
+        // Of edition 3, whose header has no width, and of edition 4, which has no smallest value.
         (0, 2, Refusal::Header),
+        (0, 5, Refusal::Header),
         (2, 8, Refusal::Header),
         (3, 1, Refusal::Length),
         (14, 2, Refusal::Damaged),

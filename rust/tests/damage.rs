@@ -93,10 +93,15 @@ fn header_numbers_at_their_borders() {
                 changed.numbers[field] = number;
                 tally.try_all(&changed.bytes(), asked);
                 tally.try_all(&changed.bytes_with_lengths(), asked);
-                // V as the changed count or width asks, with bytes to match.
+                // V as the changed count, width or table asks, with bytes to match.
                 let bits = changed.numbers[parts::COUNT].checked_mul(changed.numbers[parts::WIDTH]);
-                if let Some(bits @ 0..=4000) = bits {
-                    changed.values.resize(bits.div_ceil(8) as usize, 0);
+                let table = match changed.numbers[parts::EDITION] {
+                    4 => changed.numbers[parts::STEP],
+                    _ => 0,
+                };
+                if let (Some(bits @ 0..=4000), 0..=1000) = (bits, table) {
+                    let bytes = 8 * table + bits.div_ceil(8);
+                    changed.values.resize(bytes as usize, 0);
                     tally.try_all(&changed.bytes_with_lengths(), asked);
                 }
             }
@@ -104,13 +109,16 @@ fn header_numbers_at_their_borders() {
         // header + L + V is the byte count only modulo 2^64.
         let mut wraps = sound.clone();
         wraps.numbers[parts::COUNT] = 1000;
-        wraps.numbers[parts::WIDTH] = match sound.numbers[parts::EDITION] {
-            3 => 0,
-            _ => 64,
+        let own = sound.numbers[parts::WIDTH];
+        let (width, bytes) = match sound.numbers[parts::EDITION] {
+            3 => (0, 8000),
+            4 => (own, sound.packed_at() as u64 + 125 * own),
+            _ => (64, 8000),
         };
-        wraps.numbers[parts::VALUE_BYTES] = 8000;
+        wraps.numbers[parts::WIDTH] = width;
+        wraps.numbers[parts::VALUE_BYTES] = bytes;
         let there = (sound.ids.len() + sound.values.len()) as u64;
-        wraps.numbers[parts::ID_BYTES] = there.wrapping_sub(8000);
+        wraps.numbers[parts::ID_BYTES] = there.wrapping_sub(bytes);
         assert_eq!(same::check(&wraps.bytes()), Err(Refusal::Length));
         tally.try_all(&wraps.bytes(), asked);
     }

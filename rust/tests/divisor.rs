@@ -5,7 +5,7 @@ mod common;
 
 use common::damage::Tally;
 use common::parts::{self, Parts};
-use common::{bytes, few_ids, same, values_of_width, Random, EDITIONS, PACKED, POWERS};
+use common::{bytes, few_ids, same, values_of_width, Random, PACKED, POWERS, SCALED};
 use signalfern::{Edition, Refusal};
 use signalfern_reference::Answer;
 
@@ -96,7 +96,7 @@ fn what_the_divisor_is() {
         let ids = few_ids(&mut random, 12);
         let width = random.below(65) as u32;
         let values = values_of_width(&mut random, ids.len(), width);
-        let (edition, power) = (EDITIONS[round / 10 % 3], POWERS[round % 10]);
+        let (edition, power) = (SCALED[round / 10 % 3], POWERS[round % 10]);
         let parts = Parts::of(&same::write_exactly(&ids, &values, edition, power));
         let exact: Vec<i128> = values.iter().map(|&value| value.into()).collect();
         let smallest = exact.iter().copied().min().unwrap_or(0);

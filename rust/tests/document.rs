@@ -114,7 +114,8 @@ fn header_numbers() {
         ("00", Refusal::Edition),
         ("02", short(1)),
         ("03", short(1)),
-        ("04", Refusal::Edition),
+        ("04", short(1)),
+        ("05", Refusal::Edition),
         ("01", short(1)),
         // A rank power that is not allowed, and the last number is cut off.
         ("01 00 06 0E 01 00 00 01", short(8)),

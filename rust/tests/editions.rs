@@ -28,10 +28,16 @@ fn numbers_of_the_editions() {
     for edition in EDITIONS {
         let number = edition.number();
         assert_eq!(Edition::from_number(number.into()), Some(edition));
-        assert_eq!(same::write_exactly(&[], &[], edition, 9)[0], number as u8);
+        // Without pairs, and of a list that suits a table.
+        let plain = edition == Edition::Table;
+        let empty = same::write_exactly(&[], &[], edition, 9)[0];
+        assert_eq!(empty, if plain { 1 } else { number as u8 });
+        let values = [1, i64::MIN, 0, 1];
+        let first = same::write_exactly(&[0, 2, 7, 9], &values, edition, 9)[0];
+        assert_eq!(first, number as u8);
     }
-    assert_eq!(EDITIONS.map(Edition::number), [1, 2, 3]);
-    for number in [0, 4, 5, 257, 1 << 32 | 1, u64::MAX] {
+    assert_eq!(EDITIONS.map(Edition::number), [1, 2, 3, 4]);
+    for number in [0, 5, 6, 257, 1 << 32 | 1, u64::MAX] {
         assert_eq!(Edition::from_number(number), None);
     }
     assert_eq!(Edition::default(), Edition::Plain);
@@ -187,7 +193,7 @@ fn both_editions_by_the_same_calls() {
 #[test]
 fn the_first_byte_of_the_other_edition() {
     let mut random = Random::new(82);
-    let mut told = [0; 17];
+    let mut told = [0; 18];
     for _ in 0..3000 {
         let ids = few_ids(&mut random, 12);
         let width = random.pick(&[0, 1, 2, 3, 4, 7, 8, 12, 16, 20, 32, 33, 56, 63, 64]);

@@ -1,10 +1,11 @@
 //! Stored numbers by index (document 02, [5]): at every width of each edition and from every place in a
-//! byte, a call has the number of its own bits, whatever stands beside them.
+//! byte, a call has the number of its own bits, whatever stands beside them. The codes of edition 4:
+//! `tables`.
 
 mod common;
 
 use common::parts::{self, Parts};
-use common::{same, Random, EDITIONS, LUCENE_WIDTHS};
+use common::{same, Random, LUCENE_WIDTHS, SCALED};
 use signalfern::{Cursor, Edition};
 use signalfern_reference::Answer;
 
@@ -26,9 +27,9 @@ fn column(edition: Edition, width: usize, byte: impl FnMut(usize) -> u8) -> Part
     parts
 }
 
-/// Each edition with each of its widths.
+/// Each of these editions with each of its widths.
 fn widths() -> impl Iterator<Item = (Edition, usize)> {
-    EDITIONS.into_iter().flat_map(|edition| {
+    SCALED.into_iter().flat_map(|edition| {
         let allowed = move |width: &usize| match edition {
             Edition::Lucene => *width == 0 || LUCENE_WIDTHS.contains(&(*width as u32)),
             _ => true,

@@ -11,8 +11,8 @@ use common::{same, Random, EDITIONS};
 use signalfern::{Edition, Refusal, MAX_ID};
 
 /// Ids 0 and 1 of block 0, and 4096 of block 2: sparse and dense, a missing block, two ranks (p 15),
-/// four jump entries, and spare bits. Stored numbers have three bits in editions 1 and 3, two in edition 2
-/// (3 times 4098 is 2 short of bytes, and 2 times 4098 is 4 short).
+/// four jump entries, and spare bits. Stored numbers have three bits, in edition 2 two (3 times 4098 is 2 short
+/// of bytes, and 2 times 4098 is 4 short). In edition 4 they are codes of five values.
 fn column(edition: Edition) -> (Vec<u8>, Vec<u32>) {
     let mut random = Random::new(30);
     let mut ids = vec![0, 1];
@@ -22,6 +22,10 @@ fn column(edition: Edition) -> (Vec<u8>, Vec<u32>) {
         .map(|_| random.below(greatest) as i64 - 3)
         .collect();
     values[..3].copy_from_slice(&[-3, greatest as i64 - 4, -2]);
+    if edition == Edition::Table {
+        let five = [-9, 0, 5, 1 << 40, i64::MAX];
+        (values.iter_mut()).for_each(|value| *value = five[(*value + 3) as usize % 5]);
+    }
     (same::write_exactly(&ids, &values, edition, 15), ids)
 }
 
@@ -48,9 +52,10 @@ fn field(name: &'static str, from: usize, len: usize, step: usize, fixed: bool) 
 }
 
 /// The fields in order; the id section starts after the header's `h` bytes, the values at `v` with the
-/// `directory` bytes of edition 3.
-fn fields(h: usize, v: usize, directory: usize, end: usize) -> [Field; 11] {
-    let packed = v + directory;
+/// `front` bytes of the directory of edition 3, or of the table of edition 4.
+fn fields(edition: Edition, h: usize, v: usize, front: usize, end: usize) -> [Field; 11] {
+    let packed = v + front;
+    let directory = edition == Edition::Runs;
     [
         field("header", 0, h, 1, false),
         // Number and count of each block: another count has other data, and the jump entries know
@@ -63,8 +68,8 @@ fn fields(h: usize, v: usize, directory: usize, end: usize) -> [Field; 11] {
         field("words", h + 16, 8192, 5, false),
         field("end block", h + 8208, 6, 1, true),
         field("jump entries", h + 8214, 32, 1, true),
-        // The values say what their run's numbers are.
-        field("directory", v, directory, 1, true),
+        // The values say what their run's numbers are. Another entry can be another column.
+        field("directory or table", v, front, 1, directory),
         field("values", packed, end - packed - 1, 3, false),
         field("last value and spare bits", end - 1, 1, 1, false),
     ]
@@ -85,6 +90,11 @@ fn each_field_of_edition_3() {
     fields_of(Edition::Runs, 25 + 1537, 0b11);
 }
 
+#[test]
+fn each_field_of_edition_4() {
+    fields_of(Edition::Table, 40 + 1537, 0b11);
+}
+
 /// The bytes of its value section, and the spare bits of the last of them.
 fn fields_of(edition: Edition, value_bytes: usize, spare: u8) {
     let (column, ids) = column(edition);
@@ -95,7 +105,7 @@ fn fields_of(edition: Edition, value_bytes: usize, spare: u8) {
     assert_eq!(parts.numbers[parts::JUMPS], 4);
     let asked = [0, 1, 2, 65_536, ids[2], ids[2000], ids[4097], MAX_ID + 1];
     let mut tally = Tally::default();
-    for field in fields(h, v, parts.packed_at(), column.len()) {
+    for field in fields(edition, h, v, parts.packed_at(), column.len()) {
         for at in field.bytes.step_by(field.step) {
             for change in CHANGES {
                 let mut bytes = column.clone();

@@ -3,7 +3,7 @@
 mod common;
 
 use common::pages::look_up_exactly;
-use common::{same, PACKED};
+use common::{plans, same, PACKED};
 use signalfern::{Checked, Cursor, Edition, Layer, Refusal};
 
 const PAGE: &str = include_str!("../../docs/FORMAT.md");
@@ -33,12 +33,13 @@ fn taken_apart() -> Vec<Vec<u8>> {
 
 #[test]
 fn columns_taken_apart() {
-    let lists: [(&[u32], &[i64], Edition, u32); 5] = [
+    let lists: [(&[u32], &[i64], Edition, u32); 6] = [
         (&[0, 2, 7], &[150, 140, 135], Edition::Plain, 9),
         (&[65_536], &[-1], Edition::Plain, 0),
         (&[], &[], Edition::Plain, 9),
         (&[0, 2, 7], &[-2, 5, 1], Edition::Lucene, 9),
         (&[0, 2, 7], &[-2, 5, 1], Edition::Runs, 9),
+        (&[0, 2, 7, 9], &[1, i64::MIN, 0, 1], Edition::Table, 9),
     ];
     let columns = taken_apart();
     assert_eq!(columns.len(), lists.len());
@@ -164,7 +165,6 @@ fn the_next_candidate() {
     assert_eq!(next(10), Ok(None));
 }
 
-/// What the page says of a correction on top.
 /// The sizes that the page tells of edition 3, and its directory of one run.
 #[test]
 fn runs_with_a_summary() {
@@ -186,7 +186,7 @@ fn runs_with_a_summary() {
 fn the_first_value_in_a_range() {
     let mut column = taken_apart().swap_remove(4);
     assert!(PAGE.contains(
-        "In the last column above, 0 to 5 finds ordinal 1, whose value is 5; -1 to 0 finds none, and so does 5 to \
+        "In the column of edition 3 above, 0 to 5 finds ordinal 1, whose value is 5; -1 to 0 finds none, and so does 5 to \
          0. With byte 33, the greatest value, turned from `05` to `04`, 5 to 9 finds none as well"
     ));
     for (low, high, found) in [
@@ -206,6 +206,42 @@ fn the_first_value_in_a_range() {
     assert_eq!(other, Err(Refusal::Edition));
 }
 
+/// What the page says of tables, of plans, and of a code that is none.
+#[test]
+fn tables_and_plans() {
+    let ids: Vec<u32> = (0..1000).collect();
+    assert!(PAGE.contains("Of 1000 pairs with three such values, edition 1 has 1500 bytes of values, and edition 4 has 24 + 250."));
+    let values: Vec<i64> = (0..1000).map(|i| [5, 6, 3000][i % 3]).collect();
+    for (edition, bytes) in [(Edition::Plain, 1500), (Edition::Table, 24 + 250)] {
+        let column = same::write_exactly(&ids, &values, edition, 9);
+        let opened = same::open(&column).unwrap();
+        assert_eq!((opened.edition(), opened.value_bytes()), (edition, bytes));
+    }
+    assert!(PAGE.contains(
+        "It is shorter for -2^63 and 2^63 - 1, by 2 bytes, and just as long for 2^60 and 2^61."
+    ));
+    for (values, less) in [([i64::MIN, i64::MAX], Some(2)), ([1 << 60, 1 << 61], None)] {
+        let [table, plain] = [Edition::Table, Edition::Plain]
+            .map(|edition| same::write_exactly(&[0, 1], &values, edition, 9).len());
+        assert_eq!(plain - table, less.unwrap_or(0));
+        let by_plan = plans::write(&[0, 1], &values, &values, 9, 99);
+        assert_eq!(by_plan.is_ok(), less.is_some());
+    }
+    assert!(PAGE.contains(
+        "For the values 5, 6, 5, 6 and 3000 it says plain; for those of the last column above it proposes -2^63, 0 \
+         and 1."
+    ));
+    assert_eq!(plans::plan(&[5, 6, 5, 6, 3000]), []);
+    assert_eq!(plans::plan(&[1, i64::MIN, 0, 1]), [i64::MIN, 0, 1]);
+    // The code of ordinal 2 made 3.
+    let mut column = taken_apart().swap_remove(5);
+    assert_eq!(column[51], 0x86);
+    column[51] = 0b1000_1110;
+    assert_eq!(same::look_up(&column, 7), Err(Refusal::Broken));
+    assert_eq!(same::check(&column), Err(Refusal::Damaged));
+}
+
+/// What the page says of a correction on top.
 #[test]
 fn a_correction_on_top() {
     let machine = taken_apart().swap_remove(0);
@@ -231,6 +267,6 @@ fn refusals_by_number_and_name() {
         let mut cells = line.strip_prefix("| ")?.split(" | ");
         Some((cells.next()?.parse::<u64>().ok()?, cells.next()?))
     });
-    let known = (1..=16).filter_map(|number| Refusal::from_number(number, 0));
+    let known = (1..=17).filter_map(|number| Refusal::from_number(number, 0));
     assert!(rows.eq(known.map(|refusal| (refusal.number(), refusal.name()))));
 }

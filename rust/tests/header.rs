@@ -108,7 +108,8 @@ fn the_first_bad_number_decides() {
         (&[0x81, 0x00, 0x80], Refusal::Number { place: 1 }),
         (&[0x02, 0x80, 0x00], Refusal::Number { place: 2 }),
         (&[0x03, 0x80, 0x00], Refusal::Number { place: 2 }),
-        (&[0x04, 0x80, 0x00], Refusal::Edition),
+        (&[0x04, 0x80, 0x00], Refusal::Number { place: 2 }),
+        (&[0x05, 0x80, 0x00], Refusal::Edition),
         (&[0x00, 0x80], Refusal::Edition),
     ] {
         refused(bytes, refusal);

@@ -23,9 +23,9 @@ int main(void)
     PROMISE(strcmp(version, signalfern_version()) == 0);
     PROMISE(strcmp(signalfern_refusal_name(0), "NONE") == 0);
     PROMISE(strcmp(signalfern_refusal_name(5), "UNKNOWN") == 0 && strlen(signalfern_refusal_text(5)) > 0);
-    PROMISE(strcmp(signalfern_refusal_name(17), "UNKNOWN") == 0);
+    PROMISE(strcmp(signalfern_refusal_name(18), "UNKNOWN") == 0);
     PROMISE(strcmp(signalfern_refusal_name(UINT64_MAX), "UNKNOWN") == 0);
-    PROMISE(strlen(signalfern_refusal_text(0)) > 0 && strlen(signalfern_refusal_text(17)) > 0);
+    PROMISE(strlen(signalfern_refusal_text(0)) > 0 && strlen(signalfern_refusal_text(18)) > 0);
 
     const struct {
         uint64_t least;
@@ -85,6 +85,15 @@ int main(void)
     PROMISE(between.kind == SIGNALFERN_FOUND && between.ordinal == 2);
     PROMISE(signalfern_first_between_in(opened, column, len, 141, 999).kind == SIGNALFERN_NONE);
 
+    const uint32_t more[] = {0, 2, 7, 9};
+    const int64_t few[] = {1, INT64_MIN, 0, 1};
+    int64_t table[SIGNALFERN_MAX_TABLE];
+    reply = signalfern_plan(few, 4, table, SIGNALFERN_MAX_TABLE);
+    PROMISE(reply.refusal == 0 && reply.number == 3 && table[0] == INT64_MIN && table[1] == 0 && table[2] == 1);
+    reply = signalfern_write_planned(more, 4, few, 4, table, 3, SIGNALFERN_USUAL_POWER, column, sizeof column);
+    PROMISE(reply.refusal == 0 && reply.number == 52);
+    PROMISE(signalfern_open(column, 52).edition == SIGNALFERN_TABLE && signalfern_look_up(column, 52, 9).value == 1);
+
     reply = signalfern_set_write(ids, 3, column, sizeof column);
     PROMISE(reply.refusal == 0);
     len = reply.number;
@@ -92,7 +101,7 @@ int main(void)
     PROMISE(signalfern_set_find(column, len, 7).ordinal == 2);
 
     printf("%s\n", signalfern_version());
-    for (uint64_t refusal = 1; refusal <= 16; refusal++) {
+    for (uint64_t refusal = 1; refusal <= 17; refusal++) {
         if (refusal == 5) /* not used */
             continue;
         printf("%" PRIu64 " %s %s\n", refusal, signalfern_refusal_name(refusal), signalfern_refusal_text(refusal));

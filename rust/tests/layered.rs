@@ -199,7 +199,7 @@ fn a_damaged_correction_and_a_damaged_machine_column() {
     let cases: [(&[u8], Refusal); 6] = [
         (&[], Refusal::Short { bytes: 0 }),
         (&[1, 0x80, 0], Refusal::Number { place: 2 }),
-        (&[4], Refusal::Edition),
+        (&[5], Refusal::Edition),
         (&[1, 3, 6, 16, 0, 2, 0, 1, 1], Refusal::Header),
         (&THREE_PAIRS[..26], Refusal::Length),
         (&broken, Refusal::Broken),

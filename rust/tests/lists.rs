@@ -19,7 +19,7 @@ fn chosen(ids: &[u32]) -> impl Iterator<Item = usize> + '_ {
 }
 
 /// Writes the list in each edition and tries each call on its column; gives the columns.
-fn there_and_back(ids: &[u32], values: &[i64], power: u32) -> [Vec<u8>; 3] {
+fn there_and_back(ids: &[u32], values: &[i64], power: u32) -> [Vec<u8>; 4] {
     EDITIONS.map(|edition| written(ids, values, edition, power))
 }
 

@@ -166,7 +166,7 @@ fn every_block_kind_at_both_ends() {
             let blocks = [(number, first), (number + 1, last)];
             let ids = ids_of(&mut random, &blocks);
             let values = values_of_width(&mut random, ids.len(), 7);
-            let (edition, power) = (EDITIONS[turn % 3], POWERS[(round + 3 * turn) % 10]);
+            let (edition, power) = (EDITIONS[turn % 4], POWERS[(round + 3 * turn) % 10]);
             let listed = Listed::new(&ids, &values, edition, power);
             let mut targets = borders(&mut random, &[number, number + 1]);
             targets.extend([ids[0], ids[first - 1], ids[first], ids[ids.len() - 1]]);

@@ -116,7 +116,7 @@ fn wild(random: &mut Random, mut header: Header, len: u64) -> Header {
         2 => header.jump_count = random.pick(&[0, 1, 2, 3, 32_768]),
         3 => header.divisor = random.pick(&[0, 2, u64::MAX]),
         4 => header.start = random.pick(&[0, len, number]),
-        5 => header.edition = random.pick(&[0, 1, 2, 3, 4, number]),
+        5 => header.edition = random.pick(&[0, 1, 2, 3, 4, 5, number]),
         6 => {
             // The id section and the header moved by a few bytes.
             let by = random.below(5) as u64;

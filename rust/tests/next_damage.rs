@@ -207,7 +207,7 @@ fn a_refusal_keeps_the_cursor() {
         (&[], 6, Refusal::Back),
         (&[], 9, Refusal::Short { bytes: 0 }),
         (&[1, 0x80, 0], 9, Refusal::Number { place: 2 }),
-        (&[4], 9, Refusal::Edition),
+        (&[5], 9, Refusal::Edition),
         (&[1, 3, 6, 16, 0, 2, 0, 1, 1], 9, Refusal::Header),
         (&THREE_PAIRS[..26], 9, Refusal::Length),
         (&wild, 9, Refusal::Broken),

@@ -43,7 +43,7 @@ fn a_header_that_is_refused() {
         (&THREE_PAIRS[..8], 7),
         (&[1, 0x80, 0], 8),
         (&[0, 3, 9], 9),
-        (&[4, 3, 9], 9),
+        (&[5, 3, 9], 9),
         (&[1, 3, 6, 16, 0, 2, 0, 1, 1], 10),
         (&THREE_PAIRS[..26], 11),
         (&long, 11),
@@ -154,7 +154,7 @@ fn as_the_list_has_it() {
         let width = random.below(65) as u32;
         let values = values_of_width(&mut random, ids.len(), width);
         let power = POWERS[round % 10];
-        let bytes = same::write_exactly(&ids, &values, EDITIONS[round / 6 % 3], power);
+        let bytes = same::write_exactly(&ids, &values, EDITIONS[round / 6 % 4], power);
         let count = random.pick(&[1, 2, 63, 999, 1000, 1001, 2500]);
         let mut page = some_ids(&mut random, &ids, count);
         match round % 3 {

@@ -13,7 +13,7 @@ use common::{
 use signalfern::{Column, Edition, Refusal, MAX_ID};
 
 /// Writes the pairs in each edition and reads them back with every call; gives the columns.
-fn there_and_back(ids: &[u32], values: &[i64], power: u32) -> [Vec<u8>; 3] {
+fn there_and_back(ids: &[u32], values: &[i64], power: u32) -> [Vec<u8>; 4] {
     EDITIONS.map(|edition| written(ids, values, edition, power))
 }
 
@@ -137,7 +137,8 @@ fn every_width() {
                 values.fill_with(|| low.wrapping_add_unsigned(random.next() & most));
                 values.splice(..2.min(count), [high, low].into_iter().take(2.min(count)));
                 let columns = there_and_back(&ids, &values, 9);
-                let [opened, packed, runs] = columns.each_ref().map(|it| Column::open(it).unwrap());
+                let [opened, packed, runs, _] =
+                    columns.each_ref().map(|it| Column::open(it).unwrap());
                 assert_eq!(packed.divisor(), opened.divisor());
                 assert_eq!(runs.divisor(), opened.divisor());
                 if count > 1 && opened.divisor() == 1 {

@@ -3,7 +3,7 @@
 
 mod common;
 
-use common::damage::Tally;
+use common::damage::{refused_everywhere, Tally};
 use common::parts::{self, Parts};
 use common::runs::{
     self, number, ordinals, side_by_side, some_values, value, with, Number, ENTRY, RUN,
@@ -175,17 +175,6 @@ fn headers_that_break_a_rule() {
         );
         Tally::default().try_all(&other.bytes_with_lengths(), &[0]);
     }
-}
-
-#[track_caller]
-fn refused_everywhere(bytes: &[u8], refusal: Refusal) {
-    assert_eq!(same::open(bytes).unwrap_err(), refusal);
-    assert_eq!(same::check(bytes), Err(refusal));
-    assert_eq!(same::read(bytes, 9, 9), Err(refusal));
-    assert_eq!(same::look_up(bytes, 0), Err(refusal));
-    assert_eq!(same::next(bytes, 7), Err(refusal));
-    assert_eq!(same::first_between(bytes, 0, 9), Err(refusal));
-    assert_eq!(layers::look_up(bytes, bytes, 0).unwrap_err().1, refusal);
 }
 
 /// Changed bytes in the directory, in the runs and in the header, of columns with one to three runs: every

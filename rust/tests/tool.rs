@@ -189,10 +189,22 @@ fn the_demo() {
     assert!(shown.out.contains(corrected), "{}", shown.out);
     let found = "runs.column 185 1000\n70001 190 ordinal 4\n";
     assert!(shown.out.contains(found), "{}", shown.out);
+    // 1000 pairs: 12 bytes of header, 2010 of ids, and values of 30 bits, of 32, of 30 with a directory, or of 2
+    // with a table.
+    let values = [3750, 4000, 25 + 3750, 32 + 250].map(|bytes| 12 + 2010 + bytes);
+    let sizes: String = (1..)
+        .zip(values)
+        .map(|(edition, bytes)| format!("edition {edition}: {bytes} bytes\n"))
+        .collect();
+    assert!(shown.out.contains(&sizes), "{}", shown.out);
+    let entry = "\n     3           1000000007          100  10.0%  #######\n";
+    assert!(shown.out.contains(entry), "{}", shown.out);
     let left = [
         "again.txt",
         "correction.column",
         "correction.txt",
+        "few.column",
+        "few.txt",
         "runs.column",
         "scores.column",
         "scores.txt",

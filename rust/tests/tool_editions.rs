@@ -131,12 +131,12 @@ fn what_is_wrong_with_one() {
         ],
     );
     let mut other = sound;
-    other.numbers[parts::EDITION] = 4;
+    other.numbers[parts::EDITION] = 5;
     check(
         other,
         &[
             "refusal 9, EDITION",
-            "a column starts with 01, 02 or 03",
+            "a column starts with 01, 02, 03 or 04",
             "the right file",
         ],
     );

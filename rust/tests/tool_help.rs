@@ -41,13 +41,15 @@ fn usage() {
     run(&["frobnicate"]).expect(2, &["no command `frobnicate`\n"]);
     run(&["lookup", "a", "1"]).expect(2, &["did you mean `look-up`?"]);
     run(&["write", "a", "-o", "b", "--powr", "9"]).expect(2, &["did you mean `--power`?"]);
-    for edition in ["0", "4", "4294967297", "two", ""] {
+    for edition in ["0", "5", "4294967297", "two", ""] {
         let words = [
-            &format!("`{edition}` is no edition: 1, 2 or 3")[..],
+            &format!("`{edition}` is no edition: 1, 2, 3 or 4")[..],
             "--help",
         ];
         run(&["write", "a", "-o", "b", "--edition", edition]).expect(2, &words);
     }
+    let both = "--best chooses the edition: leave --edition out";
+    run(&["write", "a", "-o", "b", "--best", "-e4"]).expect(2, &[both, "--help"]);
     run(&["check"]).expect(2, &["no column is named"]);
     run(&["show", "a", "b"]).expect(2, &["`b` is one word too many"]);
     run(&["write", "a"]).expect(2, &["-o COLUMN"]);
@@ -141,7 +143,7 @@ fn completions_of_bash() {
     assert!(complete("signalfern lo", 1).starts_with("look-up\n"));
     assert!(complete("signalfern write --po", 2).starts_with("--power\n"));
     assert!(complete("signalfern write -p 1", 3).starts_with("10 11 12 13 14 15\n"));
-    assert!(complete("signalfern write --edition ''", 3).starts_with("1 2 3\n"));
+    assert!(complete("signalfern write --edition ''", 3).starts_with("1 2 3 4\n"));
     assert!(complete("signalfern check a", 2).starts_with("a.column\n"));
     assert!(complete("signalfern help c", 2).starts_with("check\n"));
     assert!(complete("signalfern read a --limit ''", 4).starts_with('\n'));

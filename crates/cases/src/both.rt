@@ -74,6 +74,11 @@ fn compared(
     lists::paint(out, painted);
     let want = expected(ids, values, how, own, room);
     let got = written(ids, signed, how, out, room);
+    agreed(want, got, own, out, painted)
+}
+
+// What both answer, if they answer alike and their first bytes are the same.
+fn agreed(want: Outcome, got: Outcome, own: &[u8], out: &[u8], painted: u64) -> Outcome {
     if !is(got, want.number, want.with) {
         return outcome(UNLIKE, 0);
     }
@@ -82,6 +87,59 @@ fn compared(
     }
     want
 }
+
+// ---- by a plan (document 02, [12])
+
+fn written_by(
+    ids: &[u32],
+    signed: &[i64],
+    table: &[i64],
+    power: u32,
+    out: &mut [u8],
+    room: u64,
+) -> Outcome {
+    let end = room as usize;
+    if end > out.len() {
+        return outcome(UNTRIED, 0);
+    }
+    numbers_of(signalfern::write_planned(ids, signed, table, power, &mut out[0..end]))
+}
+
+fn expected_by(
+    ids: &[u32],
+    values: &[u64],
+    plan: &[u64],
+    power: u32,
+    own: &mut [u8],
+    room: u64,
+) -> Outcome {
+    let end = room as usize;
+    if end > own.len() {
+        return outcome(UNTRIED, 0);
+    }
+    reference::write_planned(ids, values, plan, power as u64, &mut own[0..end])
+}
+
+// With at most 4000 bytes of room: the outcome on which both agree.
+pub fn planned(
+    ids: &[u32],
+    values: &[u64],
+    signed: &[i64],
+    plan: &[u64],
+    table: &[i64],
+    power: u32,
+    room: u64,
+) -> Outcome {
+    let mut own = [0u8; 4016];
+    let mut out = [0u8; 4016];
+    lists::paint(&mut own, 4016);
+    lists::paint(&mut out, 4016);
+    let want = expected_by(ids, values, plan, power, &mut own, room);
+    let got = written_by(ids, signed, table, power, &mut out, room);
+    agreed(want, got, &own, &out, 4016)
+}
+
+// ---- by an edition
 
 // The outcome on which both writers agree, with at most 299000 bytes of room; the output starts with those bytes.
 pub fn both(

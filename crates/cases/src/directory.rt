@@ -8,7 +8,7 @@ use format::Between;
 use format::Reply;
 
 // What the look-up of an id is to say: a value, or a refusal's number.
-struct Look {
+pub struct Look {
     id: u32,
     refusal: u64,
     value: i64,
@@ -22,7 +22,7 @@ struct Ask {
     ordinal: u64,
 }
 
-fn found(id: u32, value: i64) -> Look {
+pub fn found(id: u32, value: i64) -> Look {
     Look {
         id,
         refusal: 0,
@@ -30,7 +30,7 @@ fn found(id: u32, value: i64) -> Look {
     }
 }
 
-fn refused(id: u32, refusal: u64) -> Look {
+pub fn refused(id: u32, refusal: u64) -> Look {
     Look {
         id,
         refusal,
@@ -60,13 +60,13 @@ const NONE: u64 = 1;
 
 const EDITION: u64 = 9;
 
-const HEADER: u64 = 10;
+pub const HEADER: u64 = 10;
 
 const LENGTH: u64 = 11;
 
-const DAMAGED: u64 = 13;
+pub const DAMAGED: u64 = 13;
 
-const BROKEN: u64 = 15;
+pub const BROKEN: u64 = 15;
 
 fn check_refuses(bytes: &[u8], number: u64) -> bool {
     match signalfern::check(bytes) {
@@ -76,7 +76,7 @@ fn check_refuses(bytes: &[u8], number: u64) -> bool {
 }
 
 // The refusal, or 0 for the three pairs.
-fn checked(bytes: &[u8], number: u64) -> bool {
+pub fn checked(bytes: &[u8], number: u64) -> bool {
     if number == 0 {
         return runs::checks(bytes, 3);
     }
@@ -90,7 +90,7 @@ fn look_up_refuses(bytes: &[u8], look: Look) -> bool {
     why.number() == look.refusal
 }
 
-fn looked(bytes: &[u8], look: Look) -> bool {
+pub fn looked(bytes: &[u8], look: Look) -> bool {
     if look.refusal == 0 {
         return runs::finds(bytes, look.id, look.value);
     }

@@ -1,9 +1,11 @@
 // The documents' cases for the writer, and lists beside them, each written by the library and by the second writer; numbers, fetched by both;
-// and columns of edition 3, sound and damaged, in the check, the look-up and the question.
+// and columns of editions 3 and 4, sound and damaged, in the check, the look-up and the question, and plans.
 mod both;
 mod directory;
 mod document;
 mod fetching;
+mod few;
+mod planning;
 mod runs;
 mod say;
 
@@ -167,5 +169,7 @@ fn main() {
     let t = t.and(borders());
     let t = t.and(runs::lists_of_runs());
     let t = t.and(directory::lines());
+    let t = t.and(few::lists_of_few());
+    let t = t.and(planning::lines());
     say::total(t.and(fetching::numbers()));
 }

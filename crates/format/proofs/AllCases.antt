@@ -1,6 +1,6 @@
 -- Every computed case about the definitions, in one statement: document 01's starred table, both sides of each refusal's line, and of
 -- document 02 the next candidate ([1]), the divisor ([2]), the places ([4]), the bytes of a fetch ([5]), edition 2 ([6]), the probes ([8]), a
--- correction on top ([10]) and edition 3 ([11]).
+-- correction on top ([10]), edition 3 ([11]) and edition 4 ([12]).
 -- (It is the first of these files to be checked, so that a slip in a definition shows as the case that it breaks.) Assumes nothing.
 use Rattle.format.proofs.Starred.{Starred, starred}
 use Rattle.format.proofs.Pins.{WriterCases, writer-cases, DivisorCases, divisor-cases, HeaderCases, header-cases}
@@ -8,6 +8,7 @@ use Rattle.format.proofs.PinsPlaces.{PlaceCases, place-cases}
 use Rattle.format.proofs.PinsNext.{NextCases, next-cases, NextKindCases, next-kind-cases, NextDamageCases, next-damage-cases}
 use Rattle.format.proofs.PinsLayered.{LayeredCases, layered-cases, LayeredInCases, layered-in-cases, LayeredPartCases, layered-part-cases}
 use Rattle.format.proofs.PinsSets.{SetCases, set-cases, SetCheckCases, set-check-cases, SetFindCases, set-find-cases}
+use Rattle.format.proofs.PinsPlans.{PlanCases, plan-cases, PlannedCases, planned-cases, TableCases, table-cases}
 use Rattle.format.proofs.PinsSteps.{DamageCases, damage-cases, StepCases, step-cases, WalkCases, walk-cases}
 use Rattle.format.proofs.PinsProbes.{HalvingCases, halving-cases, ProbeCases, probe-cases}
 use Rattle.format.proofs.PinsTaken.{TakenCases, taken-cases}
@@ -36,6 +37,9 @@ pub record AllCases : Type 0 where
   pub set-table : SetCases
   pub set-check-table : SetCheckCases
   pub set-find-table : SetFindCases
+  pub plan-table : PlanCases
+  pub planned-table : PlannedCases
+  pub table-table : TableCases
   pub taken-table : TakenCases
   pub page-table : PageCases
   pub low-table : LowCases
@@ -69,6 +73,9 @@ all-cases =
       set-table = set-cases;
       set-check-table = set-check-cases;
       set-find-table = set-find-cases;
+      plan-table = plan-cases;
+      planned-table = planned-cases;
+      table-table = table-cases;
       taken-table = taken-cases;
       page-table = page-cases;
       low-table = low-cases;

@@ -5,7 +5,7 @@ use Rattle.format.specs.Limits.{maxId}
 use Rattle.format.specs.Refusals.{Outcome, done, refused, andThen, need, given, EDITION, ID, BACK}
 use Rattle.format.specs.HeaderNumbers.{numberAt}
 use Rattle.format.specs.Editions.{Edition, plain, lucene, numberOf, editions, editionIn}
-use Rattle.format.specs.Pairs.{Valid}
+use Rattle.format.specs.Valid.{Valid}
 use Rattle.format.specs.Column.{column, headOf}
 use Rattle.format.specs.Opening.{Opened, openColumn, headFrom}
 use Rattle.format.specs.Check.{check, reading}
@@ -58,7 +58,7 @@ unfolding editionIn numberOf
 refuses-two bytes at e = refuses (plain ∷ []) bytes 2 at e refl
 
 -- so it refuses each column of edition 2
-pub refuses-lucene : (p : ℕ) (ids : List ℕ) (vs : List ℤ) → Valid p ids vs → Refuses (plain ∷ []) (column lucene p ids vs)
+pub refuses-lucene : (p : ℕ) (ids : List ℕ) (vs : List ℤ) → Valid lucene p ids vs → Refuses (plain ∷ []) (column lucene p ids vs)
 unfolding openColumn headFrom the-column headOf the-head numberOf
 refuses-lucene p ids vs ok =
     let bytes : List ℕ = column lucene p ids vs in

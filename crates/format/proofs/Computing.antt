@@ -13,9 +13,12 @@ use Rattle.format.specs.Values.{leastOf, mostOf, smallest, greatest, spr
 use Rattle.format.specs.Values.{bitsIn, bitLength, widthWith, width, storedWith, stored, valueAt}
 use Rattle.format.specs.Codec.{scaled, signed64}
 use Rattle.format.specs.ValueRuns.{runsIn, runsOf, runBytes, summaryOf, summaries, summaryBytes, summaryAt, runSection, inRun, inRuns}
+use Rattle.format.specs.Table.{insert, insertAll, tableOf, codeIn, tableFields, tableEntry, tableSection, tableValue, ascendsFrom, ascends, isIn, allIn}
+use Rattle.format.specs.Table.{valueShare, shorter, tableOk, tabled}
+use Rattle.format.specs.Plan.{planOk, planOf, planned, planEdition, chosen, plan}
 use Rattle.format.specs.Editions.{numberOf, editions, editionIn, highFirst, luceneWidths, firstEnough, among, lowFirst, codec}
 use Rattle.format.specs.Column.{headOf, headNumbers, column}
-use Rattle.format.specs.Writer.{notAbove, orderFault, rangeFault, writeAs, write, writeReply}
+use Rattle.format.specs.Writer.{notAbove, orderFault, rangeFault, writeIf, writeAs, writePlanned, write, writeReply, writeOut}
 use Rattle.format.specs.Opening.{openColumn, headFrom, headOk, idPart, valuePart, valueIn, valueOf}
 use Rattle.format.specs.Check.{check, allValues, pairsIn, isDone, isColumn, accepted, reading}
 use Rattle.format.specs.LookUp.{scan, halveIn, halve, inSparse, onesFrom, strideLong, strideRank, denseAt, placeAt, probesAt, entryAt, answer, fromEntry}
@@ -33,18 +36,19 @@ use Rattle.format.specs.Judge.{ranksFrom, placesOk, onesOk, ranksOk, fir
 use Rattle.format.specs.Judge.{judgeRest, judge, judgeSection}
 
 unfoldable pub computing : Type 0
-unfolding bind onesIn andThen need given needNone bytesOf countFrom digits same fromDigits lowAt highAt groups number above readGroups readNumber
-    gotAt numberAt numbersAt bitOf gather tabulate packed bitAt fetched fetchedBytes push runs kindOf byKind rankBytes dataBytes blockBytes bitmap
-    countBelow rankTable blockData blockOf endBlock jumpsFrom notTwo jumps entryBytes blocks idSection shorts placesIn readRuns idsOf leastOf mostOf
-    smallest greatest spread gcdIn gcd gcdFrom differences divisor bitsIn bitLength width stored valueAt scaled signed64 numberOf editions editionIn
-    highFirst codec headOf headNumbers column notAbove orderFault rangeFault writeAs writeReply openColumn headFrom headOk idPart valuePart valueIn
-    valueOf check allValues pairsIn isDone isColumn accepted reading scan halveIn halve inSparse onesFrom strideLong strideRank denseAt placeAt
-    probesAt entryAt answer fromEntry steps entered probesFrom stepProbes lookUp openedProbes lookUpProbes lookUpIn indexOf seenOr walkFrom walk
-    listedPlaces probes decides inTurn nextSteps next nextIn lastAfter firstFrom listNext inSequence ascFrom setKind begins past missing setList
-    setData setBlockAs setBlock setBytes setWrite listLengthOk setDataBytes setDataFits setDataOk setPlaces dataFrom lengthFrom kindFrom blockFrom
-    setRun blocksFrom setIds setCheck listed memberIn setFind placeKind placeOrdinal placeValue placeWords page pageWords pageReply pageAfter bitLow
-    gatherLow packedLow bitLowAt fetchedLow luceneWidths firstEnough among lowFirst fixedAt numbersIn endIn entryIn ranksFrom placesOk onesOk ranksOk
-    firstFailed testsAt unlessFault judgeFrom jumpsAt jumpsIn judgeEntries judgeRest judge judgeSection twos untwos widthWith storedWith runsIn runsOf
-    runBytes summaryOf summaries summaryBytes summaryAt runSection inRun inRuns scanFrom runsFrom betweenSteps firstBetween firstBetweenIn firstIn
-    write
+unfolding bind onesIn andThen need given needNone bytesOf countFrom digits same fromDigits lowAt highAt twos untwos groups number above readGroups
+    readNumber gotAt numberAt numbersAt bitOf gather tabulate packed bitAt fetched fetchedBytes bitLow gatherLow packedLow bitLowAt fetchedLow push
+    runs kindOf byKind rankBytes dataBytes blockBytes bitmap countBelow rankTable blockData blockOf endBlock jumpsFrom notTwo jumps entryBytes blocks
+    idSection shorts placesIn readRuns idsOf leastOf mostOf smallest greatest spread gcdIn gcd gcdFrom differences divisor bitsIn bitLength widthWith
+    width storedWith stored valueAt scaled signed64 runsIn runsOf runBytes summaryOf summaries summaryBytes summaryAt runSection inRun inRuns numberOf
+    editions editionIn highFirst luceneWidths firstEnough among lowFirst codec headOf headNumbers column notAbove orderFault rangeFault writeIf
+    writeAs writePlanned write writeReply writeOut openColumn headFrom headOk idPart valuePart valueIn valueOf check allValues pairsIn isDone isColumn
+    accepted reading scan halveIn halve inSparse onesFrom strideLong strideRank denseAt placeAt probesAt entryAt answer fromEntry steps entered
+    probesFrom stepProbes lookUp openedProbes lookUpProbes lookUpIn indexOf seenOr walkFrom walk listedPlaces probes decides inTurn nextSteps next
+    nextIn lastAfter firstFrom listNext inSequence scanFrom runsFrom betweenSteps firstBetween firstBetweenIn firstIn insert insertAll tableOf codeIn
+    tableFields tableEntry tableSection tableValue ascendsFrom ascends isIn allIn valueShare shorter tableOk tabled planOk planOf planned planEdition
+    chosen plan ascFrom setKind begins past missing setList setData setBlockAs setBlock setBytes setWrite listLengthOk setDataBytes setDataFits
+    setDataOk setPlaces dataFrom lengthFrom kindFrom blockFrom setRun blocksFrom setIds setCheck listed memberIn setFind placeKind placeOrdinal
+    placeValue placeWords page pageWords pageReply pageAfter fixedAt numbersIn endIn entryIn ranksFrom placesOk onesOk ranksOk firstFailed testsAt
+    unlessFault judgeFrom jumpsAt jumpsIn judgeEntries judgeRest judge judgeSection
 computing = Unit {0}

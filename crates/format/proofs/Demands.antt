@@ -9,9 +9,11 @@ use Rattle.format.specs.Refusals.{Outcome, done, refused, andThen, need,
 use Rattle.format.specs.HeaderNumbers.{number, got, readNumber}
 use Rattle.format.specs.Ids.{countBelow}
 use Rattle.format.specs.Editions.{Edition, numberOf, editions, editionIn, Knows, codec}
-use Rattle.format.specs.Pairs.{Pairs, Below, Asc, Valid}
+use Rattle.format.specs.Pairs.{Pairs, Below, Asc}
+use Rattle.format.specs.Valid.{Valid}
+use Rattle.format.specs.Plan.{chosen}
 use Rattle.format.specs.Column.{column, headOf}
-use Rattle.format.specs.Writer.{writeAs, write}
+use Rattle.format.specs.Writer.{writeIf, writeAs, write}
 use Rattle.format.specs.Opening.{Opened, openColumn}
 use Rattle.format.specs.Check.{accepted, check, reading}
 use Rattle.format.specs.LookUp.{found, absent, lookUp, lookUpIn}
@@ -38,7 +40,7 @@ starred = Table.starred
 
 -- ---- demand 2: the column of a pair list is written, opened, accepted, and read back to that list
 
-module _ (ed : Edition) (law : Lawful (codec ed)) (p : ℕ) (ids : List ℕ) (vs : List ℤ) (ok : Valid p ids vs) where
+module _ (ed : Edition) (law : Lawful (codec ed)) (p : ℕ) (ids : List ℕ) (vs : List ℤ) (ok : Valid ed p ids vs) where
   -- the writer writes it into any output that has room for it,
   pub written : (room : ℕ) → length (column ed p ids vs) ≤ room → writeAs ed p ids vs room ≡ done (column ed p ids vs)
   written = RoundTrip.written ed law p ids vs ok
@@ -71,7 +73,7 @@ pub record ColumnOf (known : List Edition) (bytes : List ℕ) (n : ℕ) : Type 0
   pub power : ℕ
   pub ids : List ℕ
   pub values : List ℤ
-  pub valid : Valid power ids values
+  pub valid : Valid edition power ids values
   pub same-bytes : column edition power ids values ≡ bytes
   pub count : length ids ≡ n
 
@@ -80,7 +82,7 @@ pub record ReadFrom (known : List Edition) (bytes : List ℕ) (idRoom valueRoom 
   pub edition : Edition
   pub knows : Knows known edition
   pub power : ℕ
-  pub valid : Valid power (q .ids) (q .values)
+  pub valid : Valid edition power (q .ids) (q .values)
   pub same-bytes : column edition power (q .ids) (q .values) ≡ bytes
   pub ids-fit : length (q .ids) ≤ idRoom
   pub values-fit : length (q .ids) ≤ valueRoom
@@ -155,7 +157,7 @@ module _ (known : List Edition) (laws : LawfulReader known) where
 
   -- no two lists, editions or rank powers have the same column
   pub one-list : (ed ed′ : Edition) → Knows known ed → Knows known ed′ → (p p′ : ℕ) (ids ids′ : List ℕ) (vs vs′ : List ℤ)
-      → Valid p ids vs → Valid p′ ids′ vs′ → column ed p ids vs ≡ column ed′ p′ ids′ vs′ → SameList ed ed′ p p′ ids ids′ vs vs′
+      → Valid ed p ids vs → Valid ed′ p′ ids′ vs′ → column ed p ids vs ≡ column ed′ p′ ids′ vs′ → SameList ed ed′ p p′ ids ids′ vs vs′
   unfolding the-column headOf the-head
   one-list ed ed′ k k′ p p′ ids ids′ vs vs′ ok ok′ e =
       let c = same-opened known laws ed ed′ k k′ p p′ ids ids′ vs vs′ ok ok′ e in
@@ -186,7 +188,7 @@ pub record Holds (known : List Edition) (bytes : List ℕ) : Type 0 where
 
 -- for the column of any pair list
 module _ (ed : Edition) (law : Lawful (codec ed)) (known : List Edition) (knows : Knows known ed) (p : ℕ) (ids : List ℕ) (vs : List ℤ)
-    (ok : Valid p ids vs) where
+    (ok : Valid ed p ids vs) where
   pub column-answers : (c : Opened) → openColumn known (column ed p ids vs) ≡ done c → (id : ℕ) → id ≤ maxId → Answers known (column ed p ids vs) c p ids vs id
   column-answers c o id k =
       record {
@@ -261,9 +263,9 @@ opened-look-up known bytes c id o =
 
 -- ---- the calls: the editions that there are have lawful codecs, and readers take all of them
 
--- the writer that is told an edition's number is that edition's
-pub told : (ed : Edition) (p : ℕ) (ids : List ℕ) (vs : List ℤ) (room : ℕ) → write (numberOf ed) p ids vs room ≡ writeAs ed p ids vs room
-unfolding write writeAs andThen given need
+-- the writer that is told an edition's number is that edition's, or edition 1's for values that the edition does not take
+pub told : (ed : Edition) (p : ℕ) (ids : List ℕ) (vs : List ℤ) (room : ℕ) → write (numberOf ed) p ids vs room ≡ writeAs (chosen ed vs) p ids vs room
+unfolding write writeAs writeIf andThen given need
 told ed p ids vs room =
     true-or (eqb (length ids) (length vs)) (λ e. rw (e, knows-all ed)) (λ e. rw e)
 
@@ -277,12 +279,14 @@ pub told-lengths : (k p : ℕ) (ids : List ℕ) (vs : List ℤ) (room : ℕ) →
 unfolding write need
 told-lengths k p ids vs room e = rw (ne-eqb (length ids) (length vs) e)
 
-module _ (ed : Edition) (p : ℕ) (ids : List ℕ) (vs : List ℤ) (ok : Valid p ids vs) where
+module _ (ed : Edition) (p : ℕ) (ids : List ℕ) (vs : List ℤ) (ok : Valid ed p ids vs) where
   pub written-told : (room : ℕ) → length (column ed p ids vs) ≤ room → write (numberOf ed) p ids vs room ≡ done (column ed p ids vs)
-  written-told room h = told ed p ids vs room ∙ written ed (lawful ed) p ids vs ok room h
+  unfolding chosen
+  written-told room h = told ed p ids vs room ∙ rw (ok .taken) (written ed (lawful ed) p ids vs ok room h)
 
   pub no-room-told : (room : ℕ) → room < length (column ed p ids vs) → write (numberOf ed) p ids vs room ≡ refused ROOM (length (column ed p ids vs))
-  no-room-told room h = told ed p ids vs room ∙ no-room ed (lawful ed) p ids vs ok room h
+  unfolding chosen
+  no-room-told room h = told ed p ids vs room ∙ rw (ok .taken) (no-room ed (lawful ed) p ids vs ok room h)
 
   pub checked-all : check editions (column ed p ids vs) ≡ done (length ids)
   checked-all = checked ed (lawful ed) p ids vs ok editions (knows-all ed)
@@ -301,7 +305,7 @@ pub reads-columns-all : (bytes : List ℕ) (idRoom valueRoom : ℕ) (q : Pairs) 
     → ReadFrom editions bytes idRoom valueRoom q
 reads-columns-all = reads-columns editions (lawful-reader editions)
 
-pub one-list-all : (ed ed′ : Edition) (p p′ : ℕ) (ids ids′ : List ℕ) (vs vs′ : List ℤ) → Valid p ids vs → Valid p′ ids′ vs′
+pub one-list-all : (ed ed′ : Edition) (p p′ : ℕ) (ids ids′ : List ℕ) (vs vs′ : List ℤ) → Valid ed p ids vs → Valid ed′ p′ ids′ vs′
     → column ed p ids vs ≡ column ed′ p′ ids′ vs′ → SameList ed ed′ p p′ ids ids′ vs vs′
 one-list-all ed ed′ = one-list editions (lawful-reader editions) ed ed′ (knows-all ed) (knows-all ed′)
 

@@ -1,6 +1,6 @@
 -- The editions: their numbers, edition 1 in document 01's words, editions 2 and 3 in document 02's, and that the codec of each is lawful.
 -- Assumes nothing.
-use Rattle.format.specs.Kit.{_≡_, refl, sym, ap, _∙_, false, _&&_, List, [], _∷_, some, Option·some-injective, ℕ, _/_, _%_, _^_, _<_, div-le-self}
+use Rattle.format.specs.Kit.{_≡_, true, refl, sym, ap, _∙_, false, _&&_, List, [], _∷_, some, Option·some-injective, ℕ, _/_, _%_, _^_, _<_, div-le-self}
 use Rattle.format.specs.Kit.{lt-of-le-of-lt, arith, leb, eqb, lit<, ℤ, drop, le-leb, leb-true, eqb-true, ne-eqb}
 use Rattle.format.specs.Limits.{maxWidth}
 use Rattle.format.specs.HeaderNumbers.{zigzag, unzigzag}
@@ -10,7 +10,7 @@ use Rattle.format.specs.Values.{smallest, spread, divisor, bitLength, wi
 use Rattle.format.specs.Pairs.{Each, Fits}
 use Rattle.format.specs.Codec.{Fields, signed64, scaled}
 use Rattle.format.specs.ValueRuns.{runLength, directoryLength, runsOf, summaryAt, runSection, inRun, inRuns}
-use Rattle.format.specs.Editions.{Edition, plain, lucene, runs, numberOf, editions, editionIn, Knows, highFirst, luceneWidths, lowFirst, codec}
+use Rattle.format.specs.Editions.{Edition, plain, lucene, runs, table, numberOf, editions, editionIn, Knows, highFirst, luceneWidths, lowFirst, codec}
 use Rattle.format.proofs.Orders.{packedBy, fetchedBy}
 use Rattle.format.proofs.Bits.{highOrder, high-orderly}
 use Rattle.format.proofs.BitsLow.{lowOrder, low-orderly}
@@ -18,8 +18,9 @@ use Rattle.format.proofs.Widths.{LeastOf, lucene-least, lucene-narrow}
 use Rattle.format.proofs.Values.{bit-length, bit-length-le}
 use Rattle.format.proofs.Bounds.{spread-lt}
 use Rattle.format.proofs.Lawful.{Lawful, LawfulReader}
-use Rattle.format.proofs.Scaled.{Sound, scaled-lawful, scaled-wide}
+use Rattle.format.proofs.Scaled.{Sound, scaled-takes, scaled-lawful, scaled-wide}
 use Rattle.format.proofs.InRuns.{runs-lawful}
+use Rattle.format.proofs.Table.{tabled-lawful, table-wide}
 use Rattle.format.proofs.Cases.{true-or}
 
 -- ---- numbers
@@ -29,6 +30,7 @@ unfolding numberOf
 number-small plain = lit< tt
 number-small lucene = lit< tt
 number-small runs = lit< tt
+number-small table = lit< tt
 
 -- all editions are known
 pub knows-all : (ed : Edition) → Knows editions ed
@@ -36,6 +38,7 @@ unfolding numberOf editions editionIn
 knows-all plain = refl
 knows-all lucene = refl
 knows-all runs = refl
+knows-all table = refl
 
 -- what is found by its number has it
 pub found-number : (known : List Edition) (k : ℕ) (ed : Edition) → editionIn known k ≡ some ed → k ≡ numberOf ed
@@ -115,6 +118,10 @@ low-first-sound =
 -- ---- edition 3
 
 -- its codec in document 02's words
+pub runs-takes : (vs : List ℤ) → codec runs .takes vs ≡ true
+unfolding codec inRuns
+runs-takes vs = refl
+
 pub runs-fields : (vs : List ℤ) → codec runs .fields vs ≡ record { width = 0; smallest = 0; divisor = divisor vs }
 unfolding codec inRuns
 runs-fields vs = refl
@@ -133,6 +140,15 @@ pub runs-value : (n : ℕ) (f : Fields) (s : List ℕ) (i : ℕ) → codec runs 
 unfolding codec inRuns
 runs-value n f s i = refl
 
+-- ---- all editions but the fourth take every list (document 02, [12])
+
+pub takes-all : (ed : Edition) (vs : List ℤ) → (ed ≡ table → ⊥) → codec ed .takes vs ≡ true
+unfolding codec
+takes-all plain vs h = scaled-takes highFirst vs
+takes-all lucene vs h = scaled-takes lowFirst vs
+takes-all runs vs h = runs-takes vs
+takes-all table vs h = absurd (h refl)
+
 -- ---- every codec is lawful, and so is every reader
 
 pub lawful : (ed : Edition) → Lawful (codec ed)
@@ -140,6 +156,7 @@ unfolding codec
 lawful plain = scaled-lawful highFirst high-first-sound
 lawful lucene = scaled-lawful lowFirst low-first-sound
 lawful runs = runs-lawful
+lawful table = tabled-lawful (codec plain)
 
 pub lawful-reader : (known : List Edition) → LawfulReader known
 lawful-reader known ed k = lawful ed
@@ -150,3 +167,4 @@ unfolding codec
 wide plain n f v h = scaled-wide highFirst high-first-sound n f v h
 wide lucene n f v h = scaled-wide lowFirst low-first-sound n f v h
 wide runs n f v h = runs-rules n f v ∙ rw (ne-eqb (f .width) 0 (λ e. omega arith))
+wide table n f v h = table-wide (codec plain) n f v h

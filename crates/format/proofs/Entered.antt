@@ -4,7 +4,9 @@ use Rattle.format.specs.Kit.{_*_, _/_, _<_, _≤_, min, zero-add, arith,
 use Rattle.format.specs.Kit.{le-leb}
 use Rattle.format.specs.Bytes.{lowAt, bytesOf}
 use Rattle.format.specs.Ids.{Run, runs, idSection, jumps, jumpsFrom, notTwo, blocks, blockOf, blockBytes, blockData, endBlock, Entry, entryBytes}
-use Rattle.format.specs.Pairs.{Valid, Asc, Below}
+use Rattle.format.specs.Pairs.{Asc, Below}
+use Rattle.format.specs.Editions.{Edition}
+use Rattle.format.specs.Valid.{Valid}
 use Rattle.format.specs.LookUp.{entryAt}
 use Rattle.format.specs.Runs.{totalBytes, Fine, AllFine, AscBlocks, endOf}
 use Rattle.format.proofs.Cases.{below-or, equal-or}
@@ -52,7 +54,7 @@ pub record Away (p : ℕ) (ids : List ℕ) (id : ℕ) (e : Entry) : Type 0 where
 abbrev pub Met : ℕ → List ℕ → ℕ → Entry → Type 0
 Met p ids id e = Here p ids id e ⊎ Away p ids id e
 
-module _ (p : ℕ) (ids : List ℕ) (vs : List ℤ) (ok : Valid p ids vs) (id : ℕ) (hid : id ≤ 2147352575) where
+module _ {ed : Edition} (p : ℕ) (ids : List ℕ) (vs : List ℤ) (ok : Valid ed p ids vs) (id : ℕ) (hid : id ≤ 2147352575) where
   -- the sections after the blocks
   abbrev end : List ℕ
   end = endBlock ++ bytesOf entryBytes (jumps p ids)

@@ -6,9 +6,10 @@ use Rattle.format.specs.Kit.{getD-drop, drop-of-length-le, eqb-true, ne-
 use Rattle.format.specs.Refusals.{Outcome, done, refused, andThen, need, given, EDITION, HEADER, LENGTH, BROKEN}
 use Rattle.format.specs.HeaderNumbers.{numberAt, numbersAt}
 use Rattle.format.specs.Values.{smallest, greatest, divisor}
-use Rattle.format.specs.Pairs.{Pairs, Each, Valid}
+use Rattle.format.specs.Pairs.{Pairs, Each}
+use Rattle.format.specs.Valid.{Valid}
 use Rattle.format.specs.ValueRuns.{runLength, runCount, Summary, summaryAt, summaryOf}
-use Rattle.format.specs.Editions.{Edition, runs, numberOf, editionIn, Knows}
+use Rattle.format.specs.Editions.{Edition, runs, numberOf, editionIn, Knows, codec}
 use Rattle.format.specs.Column.{headOf, column}
 use Rattle.format.specs.Opening.{Opened, headFrom, headOk, lengthOk, openColumn, valuePart, valueOf}
 use Rattle.format.specs.Check.{accepted}
@@ -146,7 +147,7 @@ only-runs : Knows (runs ∷ []) runs
 unfolding editionIn numberOf
 only-runs = refl
 
-module _ (p : ℕ) (ids : List ℕ) (vs : List ℤ) (ok : Valid p ids vs) where
+module _ (p : ℕ) (ids : List ℕ) (vs : List ℤ) (ok : Valid runs p ids vs) where
   abbrev bytes : List ℕ
   bytes = column runs p ids vs
 
@@ -159,6 +160,7 @@ module _ (p : ℕ) (ids : List ℕ) (vs : List ℤ) (ok : Valid p ids vs) where
 
   its-summary : (r : ℕ) → r < runCount (length vs)
       → (g : ℕ) × ((at : ℕ) × (summaryAt (valuePart bytes col) r ≡ summaryOf g at (take runLength (drop (runLength * r) vs))))
+  unfolding codec
   its-summary r h = (
     divisor vs,
     (
@@ -250,7 +252,9 @@ accepted-between known bytes c q o acc e a b =
     let r = is-read known (lawful-reader known) bytes c q o acc in
     let here : column runs (c .head .power) (q .ids) (q .values) ≡ bytes =
     ap (λ (ed : Edition). column ed (c .head .power) (q .ids) (q .values)) (sym e) ∙ r .bytes-are in
-    ap (λ (l : List ℕ). firstBetween l a b) (sym here) ∙ column-between (c .head .power) (q .ids) (q .values) (r .valid) a b
+    ap (λ (l : List ℕ). firstBetween l a b) (sym here)
+    ∙ column-between (c .head .power) (q .ids) (q .values)
+    (subst (λ (ed : Edition). Valid ed (c .head .power) (q .ids) (q .values)) e (r .valid)) a b
 
 -- of any other edition: EDITION
 pub other-between : (known : List Edition) (bytes : List ℕ) (c : Opened) → openColumn known bytes ≡ done c → (c .head .edition ≡ runs → ⊥)

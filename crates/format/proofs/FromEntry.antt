@@ -5,7 +5,7 @@ use Rattle.format.specs.Refusals.{Outcome, done, andThen, need, given}
 use Rattle.format.specs.Bytes.{lowAt}
 use Rattle.format.specs.Ids.{runs, idSection, jumps, blockBytes, Entry, countBelow, kindOf, byKind}
 use Rattle.format.specs.Editions.{Edition, codec}
-use Rattle.format.specs.Pairs.{Valid}
+use Rattle.format.specs.Valid.{Valid}
 use Rattle.format.specs.Column.{column, headOf}
 use Rattle.format.specs.Opening.{Opened, valueOf}
 use Rattle.format.specs.LookUp.{Look, found, absent, inside, nowhere, Rule, answer, fromEntry}
@@ -36,7 +36,7 @@ module _ (p : ℕ) (ids : List ℕ) (vs : List ℤ) (id : ℕ) where
 
 -- ---- what the steps say
 
-module _ (ed : Edition) (law : Lawful (codec ed)) (p : ℕ) (ids : List ℕ) (vs : List ℤ) (ok : Valid p ids vs) where
+module _ (ed : Edition) (law : Lawful (codec ed)) (p : ℕ) (ids : List ℕ) (vs : List ℤ) (ok : Valid ed p ids vs) where
   abbrev bytes : List ℕ
   bytes = column ed p ids vs
 

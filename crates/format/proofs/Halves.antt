@@ -8,7 +8,8 @@ use Rattle.format.specs.Refusals.{done}
 use Rattle.format.specs.Bytes.{bytesOf}
 use Rattle.format.specs.HeaderNumbers.{number, numbersAt}
 use Rattle.format.specs.Ids.{jumps, idSection}
-use Rattle.format.specs.Pairs.{Pairs, Asc, Below, Each, Fits, Valid}
+use Rattle.format.specs.Pairs.{Pairs, Asc, Below, Each, Fits}
+use Rattle.format.specs.Valid.{Valid}
 use Rattle.format.specs.Codec.{Fields, Codec}
 use Rattle.format.specs.Editions.{Edition, numberOf, codec}
 use Rattle.format.specs.Column.{Head, headOf, headNumbers, column}
@@ -115,6 +116,7 @@ pub record SectionOf (p j : ℕ) (s : List ℕ) (n : ℕ) : Type 0 where
 pub record ValuesOf (k : Codec) (n : ℕ) (f : Fields) (s : List ℕ) : Type 0 where
   pub values : List ℤ
   pub fit : Each Fits values
+  pub taken : k .takes values ≡ true
   pub fields : k .fields values ≡ f
   pub bytes : k .section values ≡ s
   pub count : length values ≡ n
@@ -123,7 +125,7 @@ pub record ValuesOf (k : Codec) (n : ℕ) (f : Fields) (s : List ℕ) : Type 0 w
 pub values-decoded : (k : Codec) → Lawful k → (n : ℕ) (f : Fields) (s : List ℕ) → n ≤ maxCount → (v : ValuesOf k n f s)
     → allValues n (k .value n f s) ≡ some (v .values)
 values-decoded k law n f s few v =
-    let ok : Storable (v .values) = record { few = omega (arith, v .count); fit = v .fit } in
+    let ok : Storable k (v .values) = record { taken = v .taken; few = omega (arith, v .count); fit = v .fit } in
     sym (rw (v .count, v .fields, v .bytes) refl) ∙ all-values (v .values) _ (law .back (v .values) ok)
 
 head-is : (hd : Head) (ids : List ℕ) (vs : List ℤ) (l v : ℕ) → length ids ≡ hd .count → l ≡ hd .idBytes
@@ -157,13 +159,14 @@ module _ (known : List Edition) (laws : LawfulReader known) (bytes : List ℕ) (
       let o = opened-ok known bytes c opens in
       let law = laws (hd .edition) (o .knows) in
       let all : Parts bytes c = parts known bytes c u opens in
-      let valid : Valid (hd .power) ids vs =
+      let valid : Valid (hd .edition) (hd .power) ids vs =
       record {
         lengths = i .count ∙ sym (v .count);
         power = power-true (hd .power) (head-facts hd (o .rules) .power);
         ascending = i .ascending;
         range = i .range;
         fit = v .fit;
+        taken = v .taken;
       } in
       let e : column (hd .edition) (hd .power) ids vs ≡ bytes =
       column-made (hd .edition) (hd .power) ids vs hd (idPart bytes c) (valuePart bytes c) (i .bytes) (v .bytes)
@@ -190,6 +193,7 @@ module _ (known : List Edition) (laws : LawfulReader known) (bytes : List ℕ) (
         record {
           values = q .values;
           fit = r .valid .fit;
+          taken = r .valid .taken;
           fields = ap (λ (y : Opened). y .head .fields) same;
           bytes = sym (ap₂ valuePart (sym (r .bytes-are)) (sym same) ∙ values-part (hd .edition) (r .law) (hd .power) (q .ids) (q .values) (r .valid));
           count = sym (r .valid .lengths) ∙ r .count;

@@ -63,7 +63,7 @@ module _ (vs : List ℤ) where
   unfolding runsOf
   section-le t = omega (arith, length-section, runs-le g n vs t)
 
-  module _ (ok : Storable vs) where
+  module _ (ok : Storable inRuns vs) where
     pub runs-fit : RunsFit g rs
     unfolding runsOf
     runs-fit =

@@ -11,6 +11,7 @@ pub mod PinsProbes
 pub mod PinsNext
 pub mod PinsLayered
 pub mod PinsSets
+pub mod PinsPlans
 pub mod PinsTaken
 pub mod PinsPage
 pub mod PinsLucene
@@ -50,7 +51,11 @@ pub mod Lawful
 pub mod Scaled
 pub mod ValueRuns
 pub mod InRuns
+pub mod Ascending
+pub mod SameMembers
+pub mod Table
 pub mod Editions
+pub mod Plans
 pub mod Open
 pub mod RoundTrip
 pub mod Unique

@@ -4,7 +4,7 @@ use Rattle.format.specs.Kit.{_≡_, sym, ap, ap₂, _∙_, List, ℕ, _+
 use Rattle.format.specs.Refusals.{Outcome, done, andThen, need}
 use Rattle.format.specs.Ids.{runs, countBelow}
 use Rattle.format.specs.Editions.{Edition, Knows, codec}
-use Rattle.format.specs.Pairs.{Valid}
+use Rattle.format.specs.Valid.{Valid}
 use Rattle.format.specs.Column.{column, headOf}
 use Rattle.format.specs.LookUp.{Look, Rule, halved, steps, lookUp}
 use Rattle.format.specs.Walk.{inBlock, listed, words, listAnswer}
@@ -20,7 +20,7 @@ use Rattle.format.proofs.FromEntry.{answered, by-block, from-entry}
 
 -- ---- by the list alone
 
-module _ (p : ℕ) (ids : List ℕ) (vs : List ℤ) (ok : Valid p ids vs) (id : ℕ) where
+module _ {ed : Edition} (p : ℕ) (ids : List ℕ) (vs : List ℤ) (ok : Valid ed p ids vs) (id : ℕ) where
   parts : id / 65536 * 65536 + id % 65536 ≡ id
   parts = div-add-mod' id 65536
 
@@ -44,7 +44,7 @@ module _ (p : ℕ) (ids : List ℕ) (vs : List ℤ) (ok : Valid p ids vs) (id : 
 
 -- ---- the steps, for every edition whose codec is lawful
 
-module _ (ed : Edition) (law : Lawful (codec ed)) (p : ℕ) (ids : List ℕ) (vs : List ℤ) (ok : Valid p ids vs) (id : ℕ) (hid : id ≤ 2147352575) where
+module _ (ed : Edition) (law : Lawful (codec ed)) (p : ℕ) (ids : List ℕ) (vs : List ℤ) (ok : Valid ed p ids vs) (id : ℕ) (hid : id ≤ 2147352575) where
   pub stepped : (rule : Rule) → Finds rule → steps rule (column ed p ids vs) (the-column ed p ids vs) id ≡ done (listAnswer p ids vs id)
   unfolding steps the-column headOf the-head
   stepped rule finds =

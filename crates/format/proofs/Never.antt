@@ -55,7 +55,7 @@ module _ (k : ℕ) where
     at-none none why next h n = n
     at-none (some i) why next h n = h
 
-    at-given : (o : Option A) (why w : ℕ) → Other k why → Never k (given o why w)
+    pub at-given : (o : Option A) (why w : ℕ) → Other k why → Never k (given o why w)
     unfolding Never given
     at-given (some a) why w h = tt
     at-given none why w h = h

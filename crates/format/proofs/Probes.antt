@@ -1,6 +1,6 @@
 -- The probes of a look-up (document 02, [8]): at most 12 on any bytes; for accepted bytes those of halving the places that the list has
 -- in the id's block; and there no answer moves. Assumes nothing.
-use Rattle.format.specs.Kit.{_≡_, refl, sym, ap, _∙_, subst, _⊎_, inl, inr, Bool, true, false, cond, not, _&&_, _||_, or-true, List, [], _++_}
+use Rattle.format.specs.Kit.{_≡_, refl, sym, ap, _∙_, subst, _⊎_, inl, inr, Bool, true, false, cond, not, _&&_, _||_, or-true, List, _++_}
 use Rattle.format.specs.Kit.{ℕ, zero, suc, _+_, _/_, _%_, _≤_, zero-le, arith, eqb, leb, ℤ, length, drop, eq-eqb, ne-eqb, le-leb, eqb-true}
 use Rattle.format.specs.Limits.{maxId, blockPlaces}
 use Rattle.format.specs.Refusals.{Outcome, done, refused, need, BROKEN}
@@ -8,7 +8,8 @@ use Rattle.format.specs.Bytes.{lowAt, low, bytesOf}
 use Rattle.format.specs.Ids.{Entry, Kind, sparse, dense, all, kindOf, byKind, blockBytes, blockData, idSection, runs}
 use Rattle.format.specs.IdsRead.{shorts}
 use Rattle.format.specs.Editions.{Edition, codec}
-use Rattle.format.specs.Pairs.{Pairs, Below, Valid}
+use Rattle.format.specs.Pairs.{Pairs, Below}
+use Rattle.format.specs.Valid.{Valid}
 use Rattle.format.specs.Column.{column, headOf}
 use Rattle.format.specs.Opening.{Opened, openColumn, idPart}
 use Rattle.format.specs.Check.{accepted}
@@ -123,7 +124,7 @@ entries-back p rs s t r rest u here = rw here (by-kind (kindOf (length rs)) _ _)
     by-kind dense x y = refl
     by-kind all x y = refl
 
-module _ (ed : Edition) (law : Lawful (codec ed)) (p : ℕ) (ids : List ℕ) (vs : List ℤ) (ok : Valid p ids vs) (id : ℕ) where
+module _ (ed : Edition) (law : Lawful (codec ed)) (p : ℕ) (ids : List ℕ) (vs : List ℤ) (ok : Valid ed p ids vs) (id : ℕ) where
   abbrev bytes : List ℕ
   bytes = column ed p ids vs
 

@@ -1,6 +1,6 @@
 -- Document 02, [7]: refusal 5, OFFSET, is retired. It was "a block would start at 2147483647 or later"; no block of a list within the
 -- limits comes near that line, and no call gives 5 for any input. Assumes nothing.
-use Rattle.format.specs.Kit.{_≡_, refl, ap, List, [], _∷_, _++_, append-assoc, ℕ, zero, suc, _+_, _*_, _≤_, _<_, zero-le, arith, ℤ, length, take}
+use Rattle.format.specs.Kit.{_≡_, refl, ap, Bool, List, [], _∷_, _++_, append-assoc, ℕ, zero, suc, _+_, _*_, _≤_, _<_, zero-le, arith, ℤ, length, take}
 use Rattle.format.specs.Kit.{drop, drop-at}
 use Rattle.format.specs.Limits.{maxBlocks, startLimit}
 use Rattle.format.specs.Refusals.{Outcome, done, refused}
@@ -8,8 +8,9 @@ use Rattle.format.specs.Bytes.{bytesOf}
 use Rattle.format.specs.Ids.{Run, runs, blockOf, endBlock, jumps, entryBytes, blocks, idSection, startOf}
 use Rattle.format.specs.Runs.{AllFine, AscBlocks, endOf, totalBytes}
 use Rattle.format.specs.Editions.{Edition}
-use Rattle.format.specs.Pairs.{Valid}
-use Rattle.format.specs.Writer.{writeAs}
+use Rattle.format.specs.Valid.{Valid}
+use Rattle.format.specs.Plan.{plan}
+use Rattle.format.specs.Writer.{writeIf, writeAs, writePlanned}
 use Rattle.format.specs.Opening.{Opened, openColumn}
 use Rattle.format.specs.Check.{check, reading}
 use Rattle.format.specs.LookUp.{Look, found, absent, lookUp, lookUpIn}
@@ -45,7 +46,7 @@ pub blocks-few : (gs : List Run) → AllFine gs → AscBlocks 0 gs → length gs
 blocks-few gs fine asc = omega (arith, blocks-under 0 gs asc, end-le 0 gs zero-le fine)
 
 -- for every list within the limits and every rank power
-module _ (p : ℕ) (ids : List ℕ) (vs : List ℤ) (ok : Valid p ids vs) where
+module _ {ed : Edition} (p : ℕ) (ids : List ℕ) (vs : List ℤ) (ok : Valid ed p ids vs) where
   -- block i, from 0, stands at its start, and the end block after the last
   pub starts-there : (i : ℕ)
       → drop (startOf p ids i) (idSection p ids) ≡ bytesOf (blockOf p) (drop i (runs ids)) ++ (endBlock ++ bytesOf entryBytes (jumps p ids))
@@ -75,10 +76,23 @@ module _ (p : ℕ) (ids : List ℕ) (vs : List ℤ) (ok : Valid p ids vs) where
 
 -- ---- no call gives 5: on every input, in every edition and for a reader of any editions
 
+writes-not-5 : (planned : Bool) (ed : Edition) (p : ℕ) (ids : List ℕ) (vs : List ℤ) (room : ℕ) → Never 5 (writeIf planned ed p ids vs room)
+unfolding writeIf
+writes-not-5 planned ed p ids vs room =
+    at-need 5 _ _ _ _ refl (at-need 5 _ _ _ _ refl (at-none 5 _ _ _ refl (at-none 5 _ _ _ refl
+    (at-need 5 _ _ _ _ refl (at-need 5 _ _ _ _ refl (at-done 5 _))))))
+
 pub write-never-5 : (ed : Edition) (p : ℕ) (ids : List ℕ) (vs : List ℤ) (room w : ℕ) → writeAs ed p ids vs room ≡ refused 5 w → ⊥
 unfolding writeAs
-write-never-5 ed p ids vs room w =
-    never 5 _ w (at-need 5 _ _ _ _ refl (at-need 5 _ _ _ _ refl (at-none 5 _ _ _ refl (at-none 5 _ _ _ refl (at-need 5 _ _ _ _ refl (at-done 5 _))))))
+write-never-5 ed p ids vs room w = never 5 _ w (writes-not-5 _ ed p ids vs room)
+
+pub planned-never-5 : (p : ℕ) (ids : List ℕ) (vs us : List ℤ) (room w : ℕ) → writePlanned p ids vs us room ≡ refused 5 w → ⊥
+unfolding writePlanned
+planned-never-5 p ids vs us room w = never 5 _ w (writes-not-5 _ _ p ids vs room)
+
+pub plan-never-5 : (vs : List ℤ) (room w : ℕ) → plan vs room ≡ refused 5 w → ⊥
+unfolding plan
+plan-never-5 vs room w = never 5 _ w (at-need 5 _ _ _ _ refl (at-done 5 _))
 
 module _ (known : List Edition) (bytes : List ℕ) (w : ℕ) where
   open-not-5 : Never 5 (openColumn known bytes)
@@ -174,3 +188,4 @@ number-never-5 why r e f = go why (cc)
     go Re.Refusal.Id e = omega arith
     go Re.Refusal.Broken e = omega arith
     go Re.Refusal.Back e = omega arith
+    go Re.Refusal.Plan e = omega arith

@@ -9,9 +9,10 @@ use Rattle.format.specs.Bytes.{bytesOf, same}
 use Rattle.format.specs.Ids.{Run, runs, idSection, jumps, blocks, blockBytes, entryBytes}
 use Rattle.format.specs.IdsRead.{readRuns, idsOf}
 use Rattle.format.specs.Editions.{Edition, Knows, codec}
-use Rattle.format.specs.Pairs.{Below, Asc, Valid}
+use Rattle.format.specs.Pairs.{Below, Asc}
+use Rattle.format.specs.Valid.{Valid}
 use Rattle.format.specs.Column.{Head, headOf, column}
-use Rattle.format.specs.Writer.{notAbove, orderFault, rangeFault, writeAs}
+use Rattle.format.specs.Writer.{notAbove, orderFault, rangeFault, writeIf, writeAs}
 use Rattle.format.specs.Opening.{headOk, Opened, openColumn, idPart, valuePart, valueIn}
 use Rattle.format.specs.Check.{allValues, pairsIn, isDone, isColumn, accepted, check, reading}
 use Rattle.format.proofs.Places.{asc-length}
@@ -106,7 +107,7 @@ runs-le p (g ∷ gs) = omega (arith, runs-le p gs)
 
 -- ---- the ids' half, the same in each edition
 
-module _ (p : ℕ) (ids : List ℕ) (vs : List ℤ) (ok : Valid p ids vs) where
+module _ {ed : Edition} (p : ℕ) (ids : List ℕ) (vs : List ℤ) (ok : Valid ed p ids vs) where
   pub power16 : p ≤ 16
   power16 = omega (arith, power-le p (ok .power))
 
@@ -119,8 +120,8 @@ module _ (p : ℕ) (ids : List ℕ) (vs : List ℤ) (ok : Valid p ids vs) where
   pub count-le : length ids ≤ 2147352576
   count-le = omega (arith, asc-length 0 2147352576 ids zero-le (ok .ascending) (ok .range))
 
-  pub storable : Storable vs
-  storable = record { few = omega (arith, count-le, ok .lengths); fit = ok .fit }
+  pub storable : Storable (codec ed) vs
+  storable = record { taken = ok .taken; few = omega (arith, count-le, ok .lengths); fit = ok .fit }
 
   -- 9220 bytes for each of 32766 blocks
   pub blocks-le : totalBytes p (runs ids) ≤ 302102520
@@ -151,7 +152,7 @@ module _ (ed : Edition) (p : ℕ) (ids : List ℕ) (vs : List ℤ) where
 
 -- ---- the round trip, for every edition whose codec is lawful
 
-module _ (ed : Edition) (law : Lawful (codec ed)) (p : ℕ) (ids : List ℕ) (vs : List ℤ) (ok : Valid p ids vs) where
+module _ (ed : Edition) (law : Lawful (codec ed)) (p : ℕ) (ids : List ℕ) (vs : List ℤ) (ok : Valid ed p ids vs) where
   abbrev bytes : List ℕ
   bytes = column ed p ids vs
 
@@ -216,13 +217,14 @@ module _ (ed : Edition) (law : Lawful (codec ed)) (p : ℕ) (ids : List ℕ) (vs
 
   -- the writer has nothing but the room to ask for
   room-decides : (room : ℕ) → writeAs ed p ids vs room ≡ need (leb (length bytes) room) ROOM (length bytes) (done bytes)
-  unfolding writeAs need needNone
+  unfolding writeAs writeIf need needNone
   room-decides room =
       rw (
         eq-eqb (length ids) (length vs) (ok .lengths),
         ok .power,
         in-order ids (ok .ascending),
         in-range 0 ids (ok .range),
+        ok .taken,
       )
 
   pub written : (room : ℕ) → length bytes ≤ room → writeAs ed p ids vs room ≡ done bytes

@@ -38,6 +38,10 @@ module _ {k : Packing} (sound : Sound k) where
 
 -- ---- the codec's words
 
+pub scaled-takes : (k : Packing) (vs : List ℤ) → scaled k .takes vs ≡ true
+unfolding scaled
+scaled-takes k vs = refl
+
 pub scaled-fields : (k : Packing) (vs : List ℤ)
     → scaled k .fields vs ≡ record { width = widthBy k vs; smallest = zigzag (smallest vs); divisor = divisor vs }
 unfolding scaled
@@ -102,7 +106,7 @@ back-at g vs i d h =
 
 -- ---- the codec
 
-module _ (k : Packing) (sound : Sound k) (vs : List ℤ) (ok : Storable vs) where
+module _ (k : Packing) (sound : Sound k) (vs : List ℤ) (ok : Storable (scaled k) vs) where
   fit : Each Fits vs
   fit = ok .fit
 

@@ -5,10 +5,11 @@ use Rattle.format.specs.Kit.{ltb-true}
 use Rattle.format.specs.Limits.{maxId}
 use Rattle.format.specs.Refusals.{Outcome, done, refused, andThen, need, given, DAMAGED}
 use Rattle.format.specs.Bytes.{same}
-use Rattle.format.specs.Pairs.{Pairs, Below, Asc, Each, Fits, Valid}
+use Rattle.format.specs.Pairs.{Pairs, Below, Asc, Each, Fits}
+use Rattle.format.specs.Valid.{Valid}
 use Rattle.format.specs.Editions.{Edition, Knows, codec}
 use Rattle.format.specs.Column.{Head, column, headOf}
-use Rattle.format.specs.Writer.{notAbove, orderFault, rangeFault, writeAs}
+use Rattle.format.specs.Writer.{notAbove, orderFault, rangeFault, writeIf, writeAs}
 use Rattle.format.specs.Opening.{Opened, openColumn, valuePart, valueIn}
 use Rattle.format.specs.Check.{allValues, pairsIn, isDone, isColumn, accepted}
 use Rattle.format.proofs.Tests.{result, needed, needed-none, given-some, passed, both-true}
@@ -71,27 +72,29 @@ is-done (refused why w) bytes e = absurd (let z : _≡_ {A = ℕ} 0 1 = cc in om
 
 -- the writer takes nothing else
 pub written-valid : (ed : Edition) (p : ℕ) (ids : List ℕ) (vs : List ℤ) (room : ℕ) (out : List ℕ) → Each Fits vs
-    → writeAs ed p ids vs room ≡ done out → Valid p ids vs × (column ed p ids vs ≡ out)
-unfolding writeAs
+    → writeAs ed p ids vs room ≡ done out → Valid ed p ids vs × (column ed p ids vs ≡ out)
+unfolding writeAs writeIf
 written-valid ed p ids vs room out fit e =
     let s1 = needed _ _ _ _ out e in
     let s2 = needed _ _ _ _ out (s1 .1) in
     let s3 = needed-none _ _ _ out (s2 .1) in
     let s4 = needed-none _ _ _ out (s3 .1) in
-    let s5 = needed _ _ _ _ out (s4 .1) in (
+    let s5 = needed _ _ _ _ out (s4 .1) in
+    let s6 = needed _ _ _ _ out (s5 .1) in (
       record {
         lengths = eqb-true (length ids) (length vs) (s1 .0);
         power = s2 .0;
         ascending = ordered ids (s3 .0);
         range = ranged 0 ids (s4 .0);
         fit = fit;
+        taken = s5 .0;
       },
-      ap (result []) (s5 .1),
+      ap (result []) (s6 .1),
     )
 
 -- a column of the edition and the power that a header has
 abbrev pub IsColumn : List ℕ → Head → Pairs → Type 0
-IsColumn bytes h q = Valid (h .power) (q .ids) (q .values) × (column (h .edition) (h .power) (q .ids) (q .values) ≡ bytes)
+IsColumn bytes h q = Valid (h .edition) (h .power) (q .ids) (q .values) × (column (h .edition) (h .power) (q .ids) (q .values) ≡ bytes)
 
 -- what is accepted is the column of what is read
 pub accepted-is : (bytes : List ℕ) (c : Opened) (q : Pairs) → Lawful (codec (c .head .edition)) → accepted bytes c ≡ done q → IsColumn bytes (c .head) q
@@ -128,13 +131,13 @@ accepted-only bytes c = by-pairs (pairsIn bytes c)
 
 -- a column's bytes are opened as that column is
 pub opened-as : (known : List Edition) (bytes : List ℕ) (c : Opened) (ed : Edition) → Lawful (codec ed) → Knows known ed → (p : ℕ) (ids : List ℕ) (vs : List ℤ)
-    → Valid p ids vs → openColumn known bytes ≡ done c → column ed p ids vs ≡ bytes → the-column ed p ids vs ≡ c
+    → Valid ed p ids vs → openColumn known bytes ≡ done c → column ed p ids vs ≡ bytes → the-column ed p ids vs ≡ c
 opened-as known bytes c ed law k p ids vs ok o e = ap (result c) (sym (opened ed law p ids vs ok known k) ∙ ap (openColumn known) e ∙ o)
 
 -- what a lawful reader opens and accepts is the column of what it reads, opened as that column is, with its count
 pub record IsRead (bytes : List ℕ) (c : Opened) (q : Pairs) : Type 0 where
   pub law : Lawful (codec (c .head .edition))
-  pub valid : Valid (c .head .power) (q .ids) (q .values)
+  pub valid : Valid (c .head .edition) (c .head .power) (q .ids) (q .values)
   pub bytes-are : column (c .head .edition) (c .head .power) (q .ids) (q .values) ≡ bytes
   pub opened-is : the-column (c .head .edition) (c .head .power) (q .ids) (q .values) ≡ c
   pub count : length (q .ids) ≡ c .head .count
@@ -151,7 +154,7 @@ is-read known laws bytes c q o a =
 
 -- two lists whose columns are the same bytes, for a lawful reader of both editions
 module _ (known : List Edition) (laws : LawfulReader known) (ed ed′ : Edition) (k : Knows known ed) (k′ : Knows known ed′) (p p′ : ℕ) (ids ids′ : List ℕ)
-    (vs vs′ : List ℤ) (ok : Valid p ids vs) (ok′ : Valid p′ ids′ vs′) (e : column ed p ids vs ≡ column ed′ p′ ids′ vs′) where
+    (vs vs′ : List ℤ) (ok : Valid ed p ids vs) (ok′ : Valid ed′ p′ ids′ vs′) (e : column ed p ids vs ≡ column ed′ p′ ids′ vs′) where
   pub same-opened : the-column ed p ids vs ≡ the-column ed′ p′ ids′ vs′
   same-opened = opened-as known _ _ ed (laws ed k) k p ids vs ok (opened ed′ (laws ed′ k′) p′ ids′ vs′ ok′ known k′) e
 

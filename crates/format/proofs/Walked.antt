@@ -5,7 +5,8 @@ use Rattle.format.specs.Kit.{le-ltb}
 use Rattle.format.specs.Bytes.{bytesOf}
 use Rattle.format.specs.Ids.{Run, runs, idSection, jumps, blocks, blockOf, blockBytes, endBlock, entryBytes, countBelow}
 use Rattle.format.specs.Editions.{Edition, codec}
-use Rattle.format.specs.Pairs.{Asc, Valid}
+use Rattle.format.specs.Pairs.{Asc}
+use Rattle.format.specs.Valid.{Valid}
 use Rattle.format.specs.Column.{column, headOf}
 use Rattle.format.specs.Opening.{Opened, idPart, valueOf}
 use Rattle.format.specs.Walk.{listed, indexOf, seenOr, walkFrom, walk, Seen, seen, unseen, wordless, listAnswer}
@@ -104,7 +105,7 @@ module _ (bytes : List ℕ) (col : Opened) (id : ℕ) (s rest : List ℕ) (part 
 
 -- ---- a column, in every edition whose codec is lawful
 
-module _ (ed : Edition) (law : Lawful (codec ed)) (p : ℕ) (ids : List ℕ) (vs : List ℤ) (ok : Valid p ids vs) (id : ℕ) (hid : id ≤ 2147352575) where
+module _ (ed : Edition) (law : Lawful (codec ed)) (p : ℕ) (ids : List ℕ) (vs : List ℤ) (ok : Valid ed p ids vs) (id : ℕ) (hid : id ≤ 2147352575) where
   pub walked : walk (column ed p ids vs) (the-column ed p ids vs) id ≡ wordless (listAnswer p ids vs id)
   unfolding walk the-column headOf the-head idSection blocks seenAt wordless listAnswer
   walked =

@@ -1,6 +1,6 @@
 -- What an edition says of values, and all that it says: the header's w, smallest value and g, the value section, the header rules on
 -- them, and step 7's value. Everything else of a column is the same in each edition. Assumes nothing.
-use Rattle.format.specs.Kit.{ℕ, _/_, Bool, cond, _&&_, List, Option, none, some, leb, eqb, ℤ}
+use Rattle.format.specs.Kit.{ℕ, _/_, Bool, true, cond, _&&_, List, Option, none, some, leb, eqb, ℤ}
 use Rattle.format.specs.HeaderNumbers.{zigzag, unzigzag}
 use Rattle.format.specs.Bits.{packedBytes}
 use Rattle.format.specs.Values.{fits64, smallest, spread, divisor, stored, valueAt}
@@ -12,6 +12,8 @@ pub record Fields : Type 0 where
   pub divisor : ℕ
 
 pub record Codec : Type 0 where
+  -- the lists of values that it takes (document 02, [12]: not all, in edition 4)
+  pub takes : List ℤ → Bool
   -- what a list of values is written as
   pub fields : List ℤ → Fields
   pub section : List ℤ → List ℕ
@@ -42,6 +44,7 @@ widthBy k vs = k .widthFor (spread vs / divisor vs)
 unfoldable pub scaled : Packing → Codec
 scaled k =
     record {
+      takes = λ vs. true;
       fields = λ vs. record { width = widthBy k vs; smallest = zigzag (smallest vs); divisor = divisor vs };
       section = λ vs. k .pack (widthBy k vs) (stored vs);
       fieldsOk = λ n f v. k .widthOk (f .width) && leb 1 (f .divisor) && eqb v (packedBytes n (f .width));

@@ -6,19 +6,22 @@ use Rattle.format.specs.BitsLow.{packedLow, fetchedLow}
 use Rattle.format.specs.Values.{bitLength}
 use Rattle.format.specs.Codec.{Codec, Packing, scaled}
 use Rattle.format.specs.ValueRuns.{inRuns}
+use Rattle.format.specs.Table.{tabled}
 
--- document 01's, edition 1; Lucene 9's packing, edition 2 (document 02, [6]); values in runs, edition 3 (document 02, [11])
+-- document 01's, edition 1; Lucene 9's packing, edition 2 (document 02, [6]); values in runs, edition 3 ([11]); a table of few distinct values,
+-- edition 4 ([12])
 pub data Edition : Type 0 where
-  plain lucene runs : Edition
+  plain lucene runs table : Edition
 
 unfoldable pub numberOf : Edition → ℕ
 numberOf plain = 1
 numberOf lucene = 2
 numberOf runs = 3
+numberOf table = 4
 
 -- all of them
 unfoldable pub editions : List Edition
-editions = plain ∷ lucene ∷ runs ∷ []
+editions = plain ∷ lucene ∷ runs ∷ table ∷ []
 
 -- the edition of a number, among those that a reader knows
 unfoldable pub editionIn : List Edition → ℕ → Option Edition
@@ -58,3 +61,4 @@ unfoldable pub codec : Edition → Codec
 codec plain = scaled highFirst
 codec lucene = scaled lowFirst
 codec runs = inRuns
+codec table = tabled (scaled highFirst)

@@ -30,7 +30,7 @@ pub use lib.Pow.{field, high, low, mod-mod-pow, mod-pow-add, ones-lt, ones-split
 pub use lib.Pow.{shr-shr, split}
 pub use lib.Seq.{drop-append-le, drop-append-seam, drop-at, drop-cons, drop-drop, drop-length, drop-set-lt, ext-getD, getD-append-add, getD-drop}
 pub use lib.Seq.{getD-set-same, getD-take, length-sets, length-take-le, set-comm, sets, sets-eq, take-add, take-all, take-append-le, take-at}
-pub use lib.Seq.{getD-set-other, take-suc-set}
+pub use lib.Seq.{getD-set-other, take-suc-set, take-take}
 pub use lib.Signed.{leZ, ltZ, mag, nonNeg, pos-natAbs}
 pub use borrow.Author.Needs.{needs}
 pub use borrow.Author.Tests.{eq-eqb, eqb-false, eqb-true, le-leb, le-ltb, leb-false, leb-true, lt-leb, lt-ltb, ltb-false, ltb-true, ne-eqb, not-false}

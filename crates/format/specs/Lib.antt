@@ -11,9 +11,12 @@ pub mod IdsRead
 pub mod Values
 pub mod Codec
 pub mod ValueRuns
+pub mod Table
 pub mod Editions
+pub mod Plan
 pub mod Pairs
 pub mod Steps
+pub mod Valid
 pub mod Column
 pub mod Writer
 pub mod Opening

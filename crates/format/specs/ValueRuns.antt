@@ -1,6 +1,7 @@
 -- Document 02, [11], the values of edition 3: in runs of 16384, the last one maybe shorter, one g for the whole column, own smallest value and
 -- least width per run, bits high first. The value section opens with a directory of 25 bytes a run. Assumes nothing.
-use Rattle.format.specs.Kit.{ℕ, zero, suc, _+_, _*_, _/_, _%_, cond, _&&_, _||_, List, [], _∷_, _++_, Option, none, length, getD, take, drop, leb, eqb, ℤ}
+use Rattle.format.specs.Kit.{ℕ, zero, suc, _+_, _*_, _/_, _%_, true, cond, _&&_, _||_, List, [], _∷_, _++_, Option, none, length, getD, take, drop}
+use Rattle.format.specs.Kit.{leb, eqb, ℤ}
 use Rattle.format.specs.Limits.{maxWidth}
 use Rattle.format.specs.Bytes.{bytesOf, low, lowAt, twos, untwos}
 use Rattle.format.specs.Bits.{packed, fetched}
@@ -85,6 +86,7 @@ inRun g rest x k =
 unfoldable pub inRuns : Codec
 inRuns =
     record {
+      takes = λ vs. true;
       fields = λ vs. record { width = 0; smallest = 0; divisor = divisor vs };
       section = λ vs. runSection (divisor vs) (runsOf vs);
       fieldsOk = λ n f v. eqb (f .width) 0 && eqb (f .smallest) 0 && leb 1 (f .divisor) && leb (directoryLength n) v;

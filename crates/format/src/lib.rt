@@ -4,7 +4,7 @@ ghost use mathlib.Core.Path.{_≡_};
 ghost use Rattle.format.specs.Next.{newCursor};
 ghost use Rattle.format.specs.Replies.{refusalNumber, refusalWith, reasonNumber};
 
-// Document 01's refusals, and document 02's BACK ([1]), each with the number that goes with it, where that is not always 0; for SHORT and
+// Document 01's refusals, and document 02's BACK ([1]) and PLAN ([12]), each with the number that goes with it, where that is not always 0; for SHORT and
 // NUMBER it is document 02's ([4]). There is no OFFSET, which cannot happen (document 02, [7]).
 pub enum Refusal {
     Lengths,
@@ -22,6 +22,7 @@ pub enum Refusal {
     Id,
     Broken,
     Back,
+    Plan,
 }
 
 // What the writer (its byte count), the check and the reading (n) answer.
@@ -148,6 +149,7 @@ impl Refusal {
             Refusal::Id => 14,
             Refusal::Broken => 15,
             Refusal::Back => 16,
+            Refusal::Plan => 17,
         }
     }
 
@@ -171,6 +173,7 @@ impl Refusal {
             Refusal::Id => 0,
             Refusal::Broken => 0,
             Refusal::Back => 0,
+            Refusal::Plan => 0,
         }
     }
 }

@@ -115,6 +115,20 @@ pub fn fill_values(values: &mut [u64], signed: &mut [i64], first: u64, n: u64, v
     }
 }
 
+// Puts n values, so many of them different, over and over in an order that does not ascend.
+pub fn fill_few(values: &mut [u64], signed: &mut [i64], n: u64, distinct: u64) {
+    let mut k = 0;
+    for i in 0..n {
+        let value = random(random(wrapping_add_u64(k, 1)));
+        put_value(values, i, value);
+        put_signed(signed, i, signed_of(value));
+        k = wrapping_add_u64(k, 1);
+        if k >= distinct {
+            k = 0;
+        }
+    }
+}
+
 fn put(out: &mut [u8], i: u64, x: u64) {
     let at = i as usize;
     if at < out.len() {

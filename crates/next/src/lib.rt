@@ -162,7 +162,7 @@ fn steps_from(bytes: &[u8], column: Column, target: u32) -> Sum
     let fields = head.fields;
     let slot = values::slot_of(section, edition, head.count, fields, ordinal);
     let stored = values::number_in(section, edition, slot);
-    let Fetched::Value(value) = values::value_of(fields, slot, stored) else {
+    let Fetched::Value(value) = values::value_of(section, edition, fields, slot, stored) else {
         return no_more(2);
     };
     Sum {

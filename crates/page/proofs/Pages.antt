@@ -34,6 +34,7 @@ number-small Re.Refusal.Damaged = omega arith
 number-small Re.Refusal.Id = omega arith
 number-small Re.Refusal.Broken = omega arith
 number-small Re.Refusal.Back = omega arith
+number-small Re.Refusal.Plan = omega arith
 
 -- ---- one place after the other
 

@@ -71,7 +71,7 @@ fn valued(bytes: &[u8], column: Column, ordinal: u64, words: u64) -> Held
     let fields = head.fields;
     let slot = values::slot_of(section, edition, head.count, fields, ordinal);
     let stored = values::number_in(section, edition, slot);
-    let Fetched::Value(value) = values::value_of(fields, slot, stored) else {
+    let Fetched::Value(value) = values::value_of(section, edition, fields, slot, stored) else {
         return refused(15);
     };
     Held {

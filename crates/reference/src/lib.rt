@@ -6,6 +6,7 @@ pub mod fetching;
 mod header;
 mod ids;
 mod runs;
+mod table;
 mod values;
 
 use bytes::minus;
@@ -72,7 +73,7 @@ fn judged(ids: &[u32], values: &[u64], edition: u64, power: u64) -> Outcome {
     if n != values.len() as u64 {
         return refused(1, 0);
     }
-    if edition < 1 || edition > 3 {
+    if edition < 1 || edition > 4 {
         return refused(9, 0);
     }
     if !power_ok(power) {
@@ -114,18 +115,49 @@ fn block_bytes(ids: &[u32], power: u64) -> u64 {
     ids::put_section(&mut [0u8; 0], s, ids)
 }
 
-// Editions 1 and 2 pack all values alike; in edition 3 the section has its own bytes, put nowhere.
-fn value_bytes(values: &[u64], edition: u64, f: values::Facts) -> u64 {
-    if edition == 3 {
-        return runs::put_section(&mut [0u8; 0], 0, values, f.divisor);
-    }
-    plus(times(values.len() as u64, f.width), 7) / 8
+// What the header says of the values, and the bytes of their section.
+struct Told {
+    width: u64,
+    smallest: u64,
+    divisor: u64,
+    bytes: u64,
 }
 
-// In edition 3 the header's width and smallest value are 0.
-fn fields_of(ids: &[u32], values: &[u64], edition: u64, power: u64) -> header::Fields {
+// Editions 1 and 2 pack all values alike. In edition 3 the header's width and smallest value are 0, and the section has its own bytes, put
+// nowhere. In edition 4 the width is that of the codes, the smallest value 0, and the divisor the table's count.
+fn told_of(values: &[u64], table: &[u64], edition: u64) -> Told {
     let f = values::facts_of(values, edition == 2);
-    let own = edition == 3;
+    let n = values.len() as u64;
+    match edition {
+        3 => Told {
+            width: 0,
+            smallest: 0,
+            divisor: f.divisor,
+            bytes: runs::put_section(&mut [0u8; 0], 0, values, f.divisor),
+        },
+        4 => Told {
+            width: table::width(table),
+            smallest: 0,
+            divisor: table.len() as u64,
+            bytes: table::section_bytes(table, n),
+        },
+        _ => Told {
+            width: f.width,
+            smallest: values::folded(f.smallest),
+            divisor: f.divisor,
+            bytes: plus(times(n, f.width), 7) / 8,
+        },
+    }
+}
+
+fn fields_of(
+    ids: &[u32],
+    values: &[u64],
+    table: &[u64],
+    edition: u64,
+    power: u64,
+) -> header::Fields {
+    let t = told_of(values, table, edition);
     let jumps = ids::entries(ids::blocks(ids));
     header::Fields {
         edition,
@@ -133,23 +165,27 @@ fn fields_of(ids: &[u32], values: &[u64], edition: u64, power: u64) -> header::F
         power,
         id_bytes: plus(plus(block_bytes(ids, power), 6), jumps << 3),
         jumps,
-        width: if own { 0 } else { f.width },
-        smallest: if own { 0 } else { values::folded(f.smallest) },
-        divisor: f.divisor,
-        value_bytes: value_bytes(values, edition, f),
+        width: t.width,
+        smallest: t.smallest,
+        divisor: t.divisor,
+        value_bytes: t.bytes,
     }
 }
 
-fn put_value_section(out: &mut [u8], base: u64, values: &[u64], f: header::Fields) {
+fn put_value_section(out: &mut [u8], base: u64, values: &[u64], table: &[u64], f: header::Fields) {
     if f.edition == 3 {
         runs::put_section(out, base, values, f.divisor);
+        return;
+    }
+    if f.edition == 4 {
+        table::put_section(out, base, table, values);
         return;
     }
     let facts = values::facts_of(values, f.edition == 2);
     values::put_values(out, base, values, facts, times(f.count, f.width));
 }
 
-fn put_column(out: &mut [u8], ids: &[u32], values: &[u64], f: header::Fields) {
+fn put_column(out: &mut [u8], ids: &[u32], values: &[u64], table: &[u64], f: header::Fields) {
     let base = header::put_header(out, f);
     let end = plus(base, f.id_bytes);
     let s = ids::Section {
@@ -159,22 +195,117 @@ fn put_column(out: &mut [u8], ids: &[u32], values: &[u64], f: header::Fields) {
         power: f.power,
     };
     ids::put_section(out, s, ids);
-    put_value_section(out, end, values, f);
+    put_value_section(out, end, values, table, f);
 }
 
-// Writes the column to the front of out. No start needs a test: 32766 blocks of at most 9220 bytes end far below 2147483647 (document 02,
-// [7]).
+fn bytes_of(f: header::Fields) -> u64 {
+    plus(
+        plus(header::put_header(&mut [0u8; 0], f), f.id_bytes),
+        f.value_bytes,
+    )
+}
+
+// The column, if there is room for it. No start needs a test: 32766 blocks of at most 9220 bytes end far below 2147483647 (document 02, [7]).
+fn placed(
+    ids: &[u32],
+    values: &[u64],
+    table: &[u64],
+    f: header::Fields,
+    out: &mut [u8],
+) -> Outcome {
+    let needed = bytes_of(f);
+    if (out.len() as u64) < needed {
+        return refused(6, needed);
+    }
+    put_column(out, ids, values, table, f);
+    refused(0, needed)
+}
+
+// The small check of a table (document 02, [12]): of two whole columns, that with the table is the shorter.
+fn accepted(ids: &[u32], values: &[u64], table: &[u64], power: u64) -> bool {
+    if !table::fits(table, values) {
+        return false;
+    }
+    bytes_of(fields_of(ids, values, table, 4, power))
+        < bytes_of(fields_of(ids, values, table, 1, power))
+}
+
+// Edition 4, by the table of the distinct values; edition 1, if they are too many or the small check rejects it.
+fn write_tabled(ids: &[u32], values: &[u64], power: u64, out: &mut [u8]) -> Outcome {
+    let mut all = [0u64; 256];
+    let t = table::fill(&mut all, values, values::facts_of(values, false).smallest) as usize;
+    if t > 256 {
+        return placed(
+            ids,
+            values,
+            &all,
+            fields_of(ids, values, &all, 1, power),
+            out,
+        );
+    }
+    let table = &all[0..t];
+    let told = if accepted(ids, values, table, power) {
+        4
+    } else {
+        1
+    };
+    placed(
+        ids,
+        values,
+        table,
+        fields_of(ids, values, table, told, power),
+        out,
+    )
+}
+
+// Writes the column to the front of out.
 pub fn write(ids: &[u32], values: &[u64], edition: u64, power: u64, out: &mut [u8]) -> Outcome {
     let why = judged(ids, values, edition, power);
     if why.number != 0 {
         return why;
     }
-    let f = fields_of(ids, values, edition, power);
-    let header = header::put_header(&mut [0u8; 0], f);
-    let needed = plus(plus(header, f.id_bytes), f.value_bytes);
-    if (out.len() as u64) < needed {
-        return refused(6, needed);
+    if edition == 4 {
+        return write_tabled(ids, values, power, out);
     }
-    put_column(out, ids, values, f);
-    refused(0, needed)
+    let none = [0u64; 0];
+    placed(
+        ids,
+        values,
+        &none,
+        fields_of(ids, values, &none, edition, power),
+        out,
+    )
+}
+
+// The same by a plan: a table, or none, which is edition 1. A rejected one is refused with 17.
+pub fn write_planned(
+    ids: &[u32],
+    values: &[u64],
+    table: &[u64],
+    power: u64,
+    out: &mut [u8],
+) -> Outcome {
+    let why = judged(ids, values, 1, power);
+    if why.number != 0 {
+        return why;
+    }
+    if table.len() == 0 {
+        return placed(
+            ids,
+            values,
+            table,
+            fields_of(ids, values, table, 1, power),
+            out,
+        );
+    }
+    if !accepted(ids, values, table, power) {
+        return refused(17, 0);
+    }
+    placed(
+        ids,
+        values,
+        table,
+        fields_of(ids, values, table, 4, power),
+        out,
+    )
 }

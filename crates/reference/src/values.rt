@@ -35,11 +35,11 @@ pub fn folded(v: u64) -> u64 {
     }
 }
 
-fn quotient(a: u64, b: u64) -> u64 {
+pub fn quotient(a: u64, b: u64) -> u64 {
     if b == 0 { 0 } else { a / b }
 }
 
-fn rest(a: u64, b: u64) -> u64 {
+pub fn rest(a: u64, b: u64) -> u64 {
     if b == 0 { 0 } else { a % b }
 }
 
@@ -78,7 +78,7 @@ fn span_of(values: &[u64], from: u64, end: u64) -> Span {
 }
 
 // The least width w with x < 2^w.
-fn width_of(x: u64) -> u64 {
+pub fn width_of(x: u64) -> u64 {
     bytes::minus(64, bytes::long(u64::leading_zeros(x)))
 }
 

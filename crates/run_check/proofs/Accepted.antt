@@ -6,7 +6,7 @@ use Rattle.format.specs.Bytes.{bytesOf}
 use Rattle.format.specs.Values.{smallest, over, divisor}
 use Rattle.format.specs.Pairs.{Below, Each, Fits}
 use Rattle.format.specs.Codec.{Fields}
-use Rattle.format.specs.ValueRuns.{runLength, runCount, directoryLength, runsIn, runsOf, Summary, summaryAt, summaryOf, summaries, summaryBytes, runSection}
+use Rattle.format.specs.ValueRuns.{runLength, runCount, directoryLength, runsIn, runsOf, Summary, summaryAt, summaryOf, summaries, summaryBytes, runSection, inRuns}
 use Rattle.format.specs.Editions.{runs, codec}
 use Rattle.format.proofs.Digits.{below-drop}
 use Rattle.format.proofs.Values.{divides-each}
@@ -14,7 +14,7 @@ use Rattle.format.proofs.Bounds.{divisor-is}
 use Rattle.format.proofs.Lawful.{Storable}
 use Rattle.format.proofs.ValueRuns.{RunAt, run-divides, rest-is}
 use Rattle.format.proofs.InRuns.{runs-count, its-run, run-each, run-here}
-use Rattle.format.proofs.Editions.{runs-fields, runs-section}
+use Rattle.format.proofs.Editions.{runs-takes, runs-fields, runs-section}
 use Rattle.format.proofs.Halves.{ValuesOf, Kept, Tested}
 use Rattle.run_values.proofs.Reached.{Rules, rules-kept}
 use Rattle.run_check.specs.RunsOk.{divisorOk, runsOk, valuesOk}
@@ -57,6 +57,7 @@ sound n f s k t =
     record {
       values = vs;
       fit = joined-each Fits rs (h .fit);
+      taken = runs-takes vs;
       fields = runs-fields vs ∙ (λ i. record { width = w i; smallest = m i; divisor = own i });
       bytes =
           runs-section vs ∙ ap₂ runSection own same ∙ ap₂ (λ (a b : List ℕ). a ++ b) dir (h .bytes) ∙ take-append-drop (directoryLength n) s;
@@ -78,7 +79,7 @@ joined-runs (suc k) vs h =
     (joined-runs k (drop runLength vs) (omega (arith, length-drop runLength vs, mul-suc runLength k)))
     ∙ take-append-drop runLength vs
 
-module _ (vs : List ℤ) (ok : Storable vs) (u : Below 256 (runSection (divisor vs) (runsOf vs))) where
+module _ (vs : List ℤ) (ok : Storable inRuns vs) (u : Below 256 (runSection (divisor vs) (runsOf vs))) where
   abbrev g : ℕ
   g = divisor vs
 
@@ -130,10 +131,10 @@ module _ (vs : List ℤ) (ok : Storable vs) (u : Below 256 (runSection (divisor 
       (λ r h. run-each vs Fits (ok .fit) r (omega (arith, runs-count vs))) divides (runCount (length vs)) 0 0 0 0 (omega arith) refl final
 
 complete : (n : ℕ) (f : Fields) (s : List ℕ) → Kept (codec runs) n f s → ValuesOf (codec runs) n f s → valuesOk n f s ≡ true
-unfolding valuesOk
+unfolding valuesOk inRuns
 complete n f s k v =
     let vs : List ℤ = v .values in
-    let ok : Storable vs = record { few = omega (arith, v .count, k .few); fit = v .fit } in
+    let ok : Storable inRuns vs = record { taken = refl; few = omega (arith, v .count, k .few); fit = v .fit } in
     let bytes : runSection (divisor vs) (runsOf vs) ≡ s = sym (runs-section vs) ∙ v .bytes in
     let own : divisor vs ≡ f .divisor = ap (λ (x : Fields). x .divisor) (sym (runs-fields vs) ∙ v .fields) in
     subst (λ (i : ℕ). runsOk (f .divisor) s (drop (directoryLength i) s) i (runCount i) 0 0 0 0 ≡ true) (v .count)

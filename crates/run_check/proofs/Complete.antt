@@ -9,7 +9,7 @@ use Rattle.format.specs.Pairs.{Below, Each, Fits}
 use Rattle.format.specs.ValueRuns.{runLength, runCount, Summary, summaryAt, summaryOf, runBytes}
 use Rattle.format.proofs.Tests.{true-both}
 use Rattle.format.proofs.Digits.{below-take, below-drop}
-use Rattle.format.proofs.Bits.{unpacked-packed}
+use Rattle.format.proofs.Bits.{byte-at, unpacked-packed}
 use Rattle.format.proofs.Values.{values-back, length-stored-with, stored-below}
 use Rattle.format.proofs.Pieces.{split-bytes}
 use Rattle.format.proofs.ValueRuns.{runStart, RunAt, length-run, run-narrow}
@@ -18,7 +18,6 @@ use Rattle.run_check.specs.RunsOk.{partAt, numbersAt, runOk, divisorOk, 
 use Rattle.run_check.proofs.Divisor.{apartIn, commonIn}
 use Rattle.run_check.proofs.OneRun.{RunIs, run-complete}
 use Rattle.run_values.proofs.Laid.{start-more}
-use Rattle.run_check.proofs.Sound.{byte-of}
 
 module _ (g : ℕ) (p : 0 < g) (s rest : List ℕ) (n : ℕ) (ur : Below 256 rest) (rs : List (List ℤ)) (many : length rs ≡ runCount n)
     (there : (r : ℕ) → r < length rs → RunAt g s rest rs r) (end : length (bytesOf (runBytes g) rs) ≡ length rest)
@@ -104,7 +103,7 @@ module _ (g : ℕ) (p : 0 < g) (s rest : List ℕ) (n : ℕ) (ur : Below 256 res
         let part-below : Below 256 part = below-take 256 (packedBytes m (x .width)) (drop at rest) (below-drop 256 at rest ur) in
         let narrow : x .width ≤ maxWidth = subst (λ (w : ℕ). w ≤ maxWidth) (sym width-is) (run-narrow g run (fit r h)) in
         let t = run-complete g p x part m (subst Fits (sym low-is) (smallest-fits run (fit r h)))
-        (subst Fits (sym (ap (λ (y : Summary). y .greatest) is)) (greatest-fits run (fit r h))) narrow some plen (byte-of part part-below)
+        (subst Fits (sym (ap (λ (y : Summary). y .greatest) is)) (greatest-fits run (fit r h))) narrow some plen (byte-at part part-below)
         (subst (RunIs g x part) (sym values-are) run-is) in
         true-both _ _
         (true-both _ _

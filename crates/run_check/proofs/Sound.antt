@@ -1,24 +1,20 @@
 -- A section that passes the tests is that of some values. Assumes nothing.
 use Rattle.format.specs.Kit.{_≡_, refl, sym, ap, ap₂, _∙_, subst, true, List, [], _∷_, _++_, map, ℕ, zero, suc, _+_, _-_, _*_, _<_, _≤_, min, mul-suc, arith}
-use Rattle.format.specs.Kit.{eqb, length, getD, drop, length-take-le, length-drop, drop-drop, drop-length, take-append-drop, List·getD-eq-default, eqb-true, ℤ}
+use Rattle.format.specs.Kit.{eqb, length, getD, drop, length-take-le, length-drop, drop-drop, drop-length, take-append-drop, eqb-true, ℤ}
 use Rattle.format.specs.Bytes.{bytesOf}
 use Rattle.format.specs.Bits.{packedBytes, unpacked}
 use Rattle.format.specs.Values.{smallest, over, gcd, gcdFrom, storedWith, valueAt}
 use Rattle.format.specs.Pairs.{Below, Each, Fits}
 use Rattle.format.specs.ValueRuns.{runLength, runCount, Summary, summaryAt, summaryOf, summaries, runBytes}
-use Rattle.format.proofs.Cases.{below-or}
 use Rattle.format.proofs.Tests.{both-true}
 use Rattle.format.proofs.Digits.{below-take, below-drop}
-use Rattle.format.proofs.Bits.{below-at}
+use Rattle.format.proofs.Bits.{byte-at}
 use Rattle.run_check.specs.RunsOk.{partAt, numbersAt, runOk, divisorOk, runsOk}
 use Rattle.run_check.proofs.Divisor.{EachRun, Divided, apartIn, commonIn}
 use Rattle.run_check.proofs.Directory.{summariesAt, smallest-fits-at, greatest-fits-at}
 use Rattle.run_check.proofs.OneRun.{RunIs, run-count, run-divides, run-stored, run-sound}
 use Rattle.run_check.proofs.Shape.{Shaped}
 use Rattle.run_check.proofs.Ran.{Passed, passed}
-
-pub byte-of : (s : List ℕ) → Below 256 s → (k : ℕ) → getD s k 0 < 256
-byte-of s u k = below-or k (length s) (λ l. below-at 256 s k u l) (λ l. let z : getD s k 0 ≡ 0 = List·getD-eq-default s 0 l in omega arith)
 
 module _ (g : ℕ) (p : 0 < g) (s rest : List ℕ) (n : ℕ) (us : Below 256 s) (ur : Below 256 rest) (dir : 25 * runCount n ≤ length s) where
   abbrev pub base : ℤ
@@ -60,7 +56,7 @@ module _ (g : ℕ) (p : 0 < g) (s rest : List ℕ) (n : ℕ) (us : Below 256 s) 
     part-long = length-take-le b (drop at rest) (omega (arith, ok .within, length-drop at rest))
 
     part-byte : (i : ℕ) → getD part i 0 < 256
-    part-byte = byte-of part (below-take 256 b (drop at rest) (below-drop 256 at rest ur))
+    part-byte = byte-at part (below-take 256 b (drop at rest) (below-drop 256 at rest ur))
 
     some : 0 < m
     some = omega arith

@@ -5,7 +5,7 @@ ghost use mathlib.Core.Bool.{cond};
 ghost use Prim.Native.Nat.{ℕ, _+_, _-_, _*_, _/_, _%_, _^_, _≤_, _<_, min};
 ghost use lib.Dec.{eqb};
 ghost use lib.ListN.{length, drop};
-ghost use Rattle.format.specs.Limits.{maxWidth};
+ghost use Rattle.format.specs.Limits.{maxCount, maxWidth};
 ghost use Rattle.format.specs.ValueRuns.{runLength, runCount, directoryLength, summaryAt, inRun};
 ghost use Rattle.format.specs.Editions.{runs, codec};
 ghost use Rattle.format.specs.Replies.{fieldsOf};
@@ -56,6 +56,7 @@ pub fn directory_length(n: u64) -> usize
 
 // Whether the fields, and v as the value section's length, keep the header rules.
 pub fn rules(n: u64, fields: Fields, v: u64) -> bool
+    requires { ⌜ n ≤ maxCount ⌝ }
     ensures { λ r. ⌜ r ≡ codec runs .fieldsOk n (fieldsOf fields) v ⌝ }
 {
     if fields.width != 0 {
@@ -67,7 +68,7 @@ pub fn rules(n: u64, fields: Fields, v: u64) -> bool
     if fields.divisor < 1 {
         return false;
     }
-    directory_length(n) as u64 <= v
+    25 * ((n + 16383) / RUN) <= v
 }
 
 // A byte as a number, and that it is small.

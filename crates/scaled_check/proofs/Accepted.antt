@@ -2,18 +2,18 @@
 -- every packing. Assumes nothing.
 use Rattle.format.specs.Kit.{_≡_, refl, sym, ap, ap₂, _∙_, subst, Bool, true, List, [], _∷_, map, ℕ, _-_, _*_, _^_, _<_, _≤_, min, max, mul-one}
 use Rattle.format.specs.Kit.{mul-zero, eq-of-mul-eq-mul-left, lt-of-lt-of-le, arith, eqb, leb, pow-mono, pow-pos, ℤ, length, getD, length-map}
-use Rattle.format.specs.Kit.{List·getD-eq-default, eqb-true, eq-eqb, ne-eqb, leb-true, le-leb, lt-leb}
+use Rattle.format.specs.Kit.{eqb-true, eq-eqb, ne-eqb, leb-true, le-leb, lt-leb}
 use Rattle.format.specs.HeaderNumbers.{zigzag, unzigzag}
 use Rattle.format.specs.Bits.{tabulate, bitBytes}
 use Rattle.format.specs.Values.{smallest, greatest, gcdFrom, divisor, stored, storedWith, spread}
 use Rattle.format.specs.Pairs.{Below, Each, Fits}
 use Rattle.format.specs.Codec.{Fields, widthBy, scaled}
-use Rattle.format.proofs.Cases.{below-or, equal-or}
-use Rattle.format.proofs.Bits.{below-at}
+use Rattle.format.proofs.Cases.{equal-or}
+use Rattle.format.proofs.Bits.{byte-at}
 use Rattle.format.proofs.Orders.{packedBy, packed-fetched, spare-packed, bits-past}
 use Rattle.format.proofs.Fits.{zigzag-unzigzag, unzigzag-zigzag, unzigzag-fits, greatest-fits}
 use Rattle.format.proofs.Halves.{ValuesOf, Tested, values-decoded}
-use Rattle.format.proofs.Scaled.{scaled-fields, scaled-section, scaled-lawful}
+use Rattle.format.proofs.Scaled.{scaled-takes, scaled-fields, scaled-section, scaled-lawful}
 use Rattle.packings.specs.declared.Order.{Order}
 use Rattle.packings.specs.Packings.{packingOf, narrowerBy, spareOk}
 use Rattle.packings.proofs.Packings.{soundOf, width-is, top-is, width-zero, pack-none}
@@ -55,7 +55,7 @@ module _ (o : Order) (n : ℕ) (h : Fields) (s : List ℕ) (facts : Rules o n h 
   length-is = facts .bytes
 
   byte : (k : ℕ) → getD s k 0 < 256
-  byte k = below-or k (length s) (λ l. below-at 256 s k u l) (λ l. let z : getD s k 0 ≡ 0 = List·getD-eq-default s 0 l in omega arith)
+  byte = byte-at s u
 
   -- the spare bits are 0
   abbrev NoSpare : Type 0
@@ -260,6 +260,7 @@ values-of o {n} {h} {s} {vs} p =
     record {
       values = vs;
       fit = p .fit;
+      taken = scaled-takes (packingOf o) vs;
       fields = scaled-fields (packingOf o) vs ∙ (λ i. record { width = p .width-is i; smallest = p .smallest-is i; divisor = p .divisor-is i });
       bytes = scaled-section (packingOf o) vs ∙ p .bytes;
       count = p .count;

@@ -2,7 +2,7 @@
 // 1 and 2.
 ghost use mathlib.Core.Path.{_≡_};
 ghost use mathlib.Core.List.{_++_};
-ghost use Prim.Native.Nat.{_*_, _≤_};
+ghost use Prim.Native.Nat.{ℕ, _*_, _≤_};
 ghost use lib.ListN.{length, drop};
 ghost use Rattle.format.specs.Limits.{maxCount, maxWidth};
 ghost use Rattle.format.specs.Bits.{packedBytes};
@@ -43,10 +43,10 @@ pub fn length(order: Order, values: &[i64], fields: Fields) -> u64
     packing::packed_bytes(numbers::long(values.len()), fields.width)
 }
 
-// Whether the fields, and v as the value section's length, keep the header rules.
-pub fn rules(order: Order, n: u64, fields: Fields, v: u64) -> bool
-    requires { ⌜ (n ≤ maxCount) × (fields .width ≤ maxWidth) ⌝ }
-    ensures { λ r. ⌜ r ≡ scaled (packingOf order) .fieldsOk n (fieldsOf fields) v ⌝ }
+// Whether the fields, and v as the value section's length, keep the header rules; `packed` are the bytes of n numbers at the width.
+pub fn rules(order: Order, fields: Fields, packed: u64, v: u64) -> bool
+    requires { ⌜ fields .width ≤ maxWidth ⌝ }
+    ensures { λ r. ⌜ ((n : ℕ) → packed ≡ packedBytes n (fields .width) → r ≡ scaled (packingOf order) .fieldsOk n (fieldsOf fields) v) ⌝ }
 {
     if fields.divisor < 1 {
         return false;
@@ -54,7 +54,7 @@ pub fn rules(order: Order, n: u64, fields: Fields, v: u64) -> bool
     if !packings::width_ok(order, fields.width) {
         return false;
     }
-    v == packing::packed_bytes(n, fields.width)
+    v == packed
 }
 
 // Writes the numbers stored of the values, by a divisor and from the smallest value on (`low`, biased), packed at the width for them, to the

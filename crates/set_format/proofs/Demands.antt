@@ -5,7 +5,8 @@ use Rattle.format.specs.Limits.{maxId}
 use Rattle.format.specs.Refusals.{Outcome, done, refused, andThen, need, needNone, ROOM}
 use Rattle.format.specs.Ids.{countBelow}
 use Rattle.format.specs.Editions.{Edition, Knows, codec}
-use Rattle.format.specs.Pairs.{Below, Valid, ValidIds}
+use Rattle.format.specs.Pairs.{Below, ValidIds}
+use Rattle.format.specs.Valid.{Valid}
 use Rattle.format.specs.Column.{column}
 use Rattle.format.specs.Opening.{Opened, openColumn}
 use Rattle.format.specs.LookUp.{lookUp}
@@ -131,7 +132,7 @@ as-walk p ids vs id = go (listed id ids) refl
 
 -- a column that holds these ids, in any edition, at any rank power and with any values
 module _ (ed : Edition) (law : Lawful (codec ed)) (known : List Edition) (knows : Knows known ed) (p : ℕ) (ids : List ℕ) (vs : List ℤ)
-    (ok : Valid p ids vs) (id : ℕ) where
+    (ok : Valid ed p ids vs) (id : ℕ) where
   abbrev alone : ValidIds ids
   alone = record { ascending = ok .ascending; range = ok .range }
 

@@ -3,7 +3,9 @@
 use Rattle.format.specs.Kit.{_≡_, refl, sym, ap, _∙_, subst, List, _++_, ℕ, _≤_, arith, ℤ, length, take, drop, take-at, le-leb}
 use Rattle.format.specs.Limits.{maxId}
 use Rattle.format.specs.Refusals.{Outcome, done, refused, andThen, need, SHORT, NUMBER, EDITION}
-use Rattle.format.specs.Pairs.{Pairs, Below, Each, Fits, Valid}
+use Rattle.format.specs.Pairs.{Pairs, Below, Each, Fits}
+use Rattle.format.specs.Valid.{Valid}
+use Rattle.format.specs.Plan.{chosen}
 use Rattle.format.specs.Editions.{Edition, runs, numberOf, editions}
 use Rattle.format.specs.Column.{column}
 use Rattle.format.specs.Writer.{writeAs, write, writeReply, writeOut}
@@ -85,7 +87,7 @@ pub record Filled (ids : List ℕ) (vs : List ℤ) (q : Reply) (is′ : List ℕ
   pub ids-there : take (length ids) is′ ≡ ids
   pub values-there : take (length vs) xs′ ≡ vs
 
-filled : (ids : List ℕ) (vs : List ℤ) (bytes is is′ : List ℕ) (xs xs′ : List ℤ) (q : Reply)
+pub filled : (ids : List ℕ) (vs : List ℤ) (bytes is is′ : List ℕ) (xs xs′ : List ℤ) (q : Reply)
     → reading editions bytes (length is) (length xs) ≡ done (record { ids = ids; values = vs })
     → replyOf q ≡ readReply (reading editions bytes (length is) (length xs))
     → is′ ≡ idsAfter (reading editions bytes (length is) (length xs)) is → xs′ ≡ valuesAfter (reading editions bytes (length is) (length xs)) xs
@@ -103,18 +105,21 @@ filled ids vs bytes is is′ xs xs′ q e k ki kx =
 -- ---- demand 2: what `write` wrote, `check` accepts with n and `read` gives back
 
 told-edition : (k p : ℕ) (ids : List ℕ) (vs : List ℤ) (room : ℕ) (b : List ℕ) → write k p ids vs room ≡ done b
-    → (ed : Edition) × (k ≡ numberOf ed) × (writeAs ed p ids vs room ≡ done b)
+    → (ed : Edition) × (k ≡ numberOf ed) × (writeAs (chosen ed vs) p ids vs room ≡ done b)
 unfolding write
 told-edition k p ids vs room b e =
     let s = needed _ _ _ _ b e in
     let t = passed _ _ b (s .1) in
     (t .0, found-number editions k (t .0) (given-some _ _ _ _ (t .1)), t .2)
 
--- the number that `write` was told is an edition's, the lists were within the limits, and the bytes are their column in it
+-- the number that `write` was told is an edition's, the lists were within the limits, and the bytes are their column in it; in edition 1, if the
+-- edition does not take the values (document 02, [12])
 pub record Wrote (k p : ℕ) (ids : List ℕ) (vs : List ℤ) (bytes : List ℕ) : Type 0 where
+  pub told : Edition
+  pub number : k ≡ numberOf told
   pub edition : Edition
-  pub number : k ≡ numberOf edition
-  pub valid : Valid p ids vs
+  pub written-in : edition ≡ chosen told vs
+  pub valid : Valid edition p ids vs
   pub same-bytes : bytes ≡ column edition p ids vs
 
 module _ (k p : ℕ) (ids : List ℕ) (vs : List ℤ) (fit : Each Fits vs) (out out′ : List ℕ) (r : Reply) (n : ℕ)
@@ -125,10 +130,12 @@ module _ (k p : ℕ) (ids : List ℕ) (vs : List ℤ) (fit : Each Fits vs) (out 
   wrote-column =
       let b = output-put out out′ r _ kept after n wrote in
       let t = told-edition k p ids vs (length out) (b .0) (b .1) in
-      let v = written-valid (t .0) p ids vs (length out) (b .0) fit (t .2) in
+      let v = written-valid (chosen (t .0) vs) p ids vs (length out) (b .0) fit (t .2) in
       record {
-        edition = t .0;
+        told = t .0;
         number = t .1;
+        edition = chosen (t .0) vs;
+        written-in = refl;
         valid = v .0;
         same-bytes = b .2 ∙ sym (v .1);
       }

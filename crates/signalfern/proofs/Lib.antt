@@ -1,5 +1,5 @@
--- The three demands, the sequences of document 02, [1], a page ([3]), a correction on top ([10]) and sets on disk ([14]), stated for the
--- calls of this crate.
+-- The three demands, the sequences of document 02, [1], a page ([3]), a correction on top ([10]), plans ([12]) and sets on disk ([14]), stated
+-- for the calls of this crate.
 pub mod Outputs
 pub mod Demands
 pub mod Sequences
@@ -7,3 +7,4 @@ pub mod Pages
 pub mod Layered
 pub mod Sets
 pub mod Sections
+pub mod Plans

@@ -2,7 +2,8 @@
 // fixes the reply and every lent buffer afterwards by the definitions of crate format (document 01, and document 02 for what it adds).
 ghost use mathlib.Core.Path.{_≡_};
 ghost use lib.ListN.{length};
-ghost use Rattle.format.specs.Writer.{write, writeReply, writeOut};
+ghost use Rattle.format.specs.Writer.{write, writePlanned, writeReply, writeOut};
+ghost use Rattle.format.specs.Plan.{plan};
 ghost use Rattle.format.specs.Check.{check, reading, readReply, idsAfter, valuesAfter};
 ghost use Rattle.format.specs.Refusals.{done};
 ghost use Rattle.format.specs.Editions.{editions};
@@ -31,9 +32,9 @@ use format::Reply;
 use layered::Layered;
 use layered::Part;
 
-// Writes the column of the pairs (ids, values) in edition 1, 2 or 3, by its number, at rank power `power` into `out` and hands back its byte
+// Writes the column of the pairs (ids, values) in edition 1 to 4, by its number, at rank power `power` into `out` and hands back its byte
 // count. Refusals 1, 9, 2 to 4 and 6 in order, each over the whole input before the next; a refusal changes nothing, and success exactly
-// the column's bytes.
+// the column's bytes. Told edition 4 it plans for itself (document 02, [12]): edition 1, if no table makes the column shorter.
 pub fn write(ids: &[u32], values: &[i64], edition: u32, power: u32, out: &mut [u8]) -> Reply
     ensures replies { λ r. ⌜ replyOf r ≡ writeReply (write edition power (now (ids .entry)) (now (values .entry)) (length (now (out .entry)))) ⌝ }
     ensures written { λ _.
@@ -41,6 +42,33 @@ pub fn write(ids: &[u32], values: &[i64], edition: u32, power: u32, out: &mut [u
         ≡ writeOut (write edition power (now (ids .entry)) (now (values .entry)) (length (now (out .entry)))) (now (out .entry)) ⌝ }
 {
     writer::write(ids, values, edition, power, out)
+}
+
+// The same by a plan (document 02, [12]): `table`, the distinct values, ascending, gives edition 4, and plain, which is no entry, edition 1.
+// Refusals 1 to 4, then 17 for a plan that the small check rejects, then 6.
+pub fn write_planned(
+    ids: &[u32],
+    values: &[i64],
+    table: &[i64],
+    power: u32,
+    out: &mut [u8],
+) -> Reply
+    ensures replies { λ r.
+        ⌜ replyOf r ≡ writeReply (writePlanned power (now (ids .entry)) (now (values .entry)) (now (table .entry)) (length (now (out .entry)))) ⌝ }
+    ensures written { λ _.
+        ⌜ now (out .exit)
+        ≡ writeOut (writePlanned power (now (ids .entry)) (now (values .entry)) (now (table .entry)) (length (now (out .entry)))) (now (out .entry)) ⌝ }
+{
+    writer::write_planned(ids, values, table, power, out)
+}
+
+// Proposes a plan for the values into the first places of `table`: a table wherever the small check takes one, else plain. Hands back how many
+// entries, 0 for plain; 12 with 256 where `table` has fewer places. Nobody need trust it: `write_planned` checks what it is given.
+pub fn plan(values: &[i64], table: &mut [i64]) -> Reply
+    ensures replies { λ r. ⌜ replyOf r ≡ writeReply (plan (now (values .entry)) (length (now (table .entry)))) ⌝ }
+    ensures proposed { λ _. ⌜ now (table .exit) ≡ writeOut (plan (now (values .entry)) (length (now (table .entry)))) (now (table .entry)) ⌝ }
+{
+    plans::propose(table, values)
 }
 
 // Checks that the bytes are the column of some pair list, and hands back its n. Refusals 7 to 11, then 13.

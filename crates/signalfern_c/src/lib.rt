@@ -1,7 +1,7 @@
 // The library's calls for C: thin over crate signalfern, with structs returned by value, so that a refusal needs no lent slot.
 // include/signalfern.h declares them; a slice passes as a pointer and a length. The calls on two columns stand in layers.rt, that on a
-// page of ids in pages.rt, those on a range of values in ranges.rt, those on sets in sets.rt, the judge of a bare id section in
-// sections.rt.
+// page of ids in pages.rt, those on plans in planning.rt, those on a range of values in ranges.rt, those on sets in sets.rt, the judge of
+// a bare id section in sections.rt.
 ghost use mathlib.Core.Path.{_≡_};
 ghost use Prim.Native.Nat.{ℕ};
 ghost use lib.ListN.{length};
@@ -32,6 +32,7 @@ use values::Fields;
 
 mod layers;
 mod pages;
+mod planning;
 mod ranges;
 mod sections;
 mod sets;

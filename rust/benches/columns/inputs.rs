@@ -145,6 +145,8 @@ pub enum Values {
     LastBeside { step: i64 },
     /// The smallest and the greatest value by turns: divisor 2^64 - 1.
     Extremes,
+    /// So many distinct ones, whose differences to the smallest take so many bits.
+    Few { distinct: usize, width: u32 },
     /// Even ones from 0 to 14, and an odd one above 2^60 in each sixth run of edition 3, a greater one
     /// each time.
     TinyAndHuge,
@@ -183,6 +185,13 @@ impl Values {
             Self::Extremes => (0..count)
                 .map(|index| [i64::MIN, i64::MAX][index % 2])
                 .collect(),
+            Self::Few { distinct, width } => {
+                // Each of them once, and then any.
+                let few = few(random, distinct, width);
+                let mut values = few.clone();
+                values.resize_with(count, || few[(random.next() >> 8) as usize % distinct]);
+                values
+            }
             Self::TinyAndHuge => {
                 let mut values: Vec<i64> =
                     (0..count).map(|_| (random.next() % 8) as i64 * 2).collect();
@@ -207,6 +216,18 @@ fn any(random: &mut Random, count: usize, width: u32) -> Vec<i64> {
         (*first, *last) = (value(0), value(most));
     }
     values
+}
+
+/// Just so many distinct values, two or more, of which the first and the last differ by just so many bits.
+fn few(random: &mut Random, distinct: usize, width: u32) -> Vec<i64> {
+    let mut few = any(random, 2, width);
+    while few.len() < distinct {
+        let next = any(random, 3, width)[1];
+        if !few.contains(&next) {
+            few.insert(1, next);
+        }
+    }
+    few
 }
 
 /// A small generator (xorshift with a multiplied output).

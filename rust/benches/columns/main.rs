@@ -14,6 +14,7 @@ mod options;
 mod page;
 mod plot;
 mod runs;
+mod tables;
 
 use std::process::ExitCode;
 
@@ -52,6 +53,7 @@ fn run(options: &Options) -> Result<(), String> {
         Rows::Pages => page::table(effort),
         Rows::Editions => editions::table(effort),
         Rows::Runs => runs::table(effort),
+        Rows::Tables => tables::table(effort),
     };
     table.print(options.before.as_ref());
     let mut times = Times::default();

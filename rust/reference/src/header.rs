@@ -189,10 +189,10 @@ mod tests {
 
     #[test]
     fn the_edition_comes_before_the_second_number() {
-        for edition in [0, 4, 5, 0x7F] {
+        for edition in [0, 5, 6, 0x7F] {
             assert_eq!(open(&[edition, 0x80, 0]), Err(Refusal::EDITION));
         }
-        for edition in [1, 2, 3] {
+        for edition in [1, 2, 3, 4] {
             assert_eq!(open(&[edition, 0x80, 0]), Err(Refusal::bad_number(2)));
         }
         assert_eq!(open(&[0x81, 0, 0x80, 0]), Err(Refusal::bad_number(1)));

@@ -9,6 +9,7 @@ mod header;
 mod ids;
 mod judge;
 mod layered;
+mod layout;
 mod look_up;
 mod lucene;
 mod next;
@@ -16,6 +17,7 @@ mod page;
 mod runs;
 mod set;
 mod sparse;
+mod table;
 mod values;
 
 pub use header::{open, Column};
@@ -29,6 +31,10 @@ pub use page::look_up_page;
 pub use runs::{first_between, first_between_in, Between};
 pub use set::{set_check, set_find, set_write};
 pub use sparse::{halve, scan};
+pub use table::plan;
+
+use layout::Layout;
+use values::Edition;
 
 /// The greatest id.
 pub const MAX_ID: u32 = 2_147_352_575;
@@ -42,7 +48,7 @@ pub const MAX_WIDTH: u64 = 64;
 /// A refusal: its number in document 01, and the number with it.
 #[derive(Clone, Copy, Debug, PartialEq, Eq)]
 pub struct Refusal {
-    /// 1 to 16, without 5.
+    /// 1 to 17, without 5.
     pub number: u64,
     /// An index, a byte count, a place among the bytes, a pair count or 0.
     pub with: u64,
@@ -63,6 +69,7 @@ impl Refusal {
     const ID: Self = Self::new(14, 0);
     const BROKEN: Self = Self::new(15, 0);
     const BACK: Self = Self::new(16, 0);
+    const PLAN: Self = Self::new(17, 0);
 
     const fn order(index: usize) -> Self {
         Self::new(3, index as u64)
@@ -132,8 +139,16 @@ fn in_order_and_range(ids: &[u32]) -> Result<(), Refusal> {
     Ok(())
 }
 
+/// POWER, then ORDER, then RANGE.
+fn can_be_written(ids: &[u32], power: u32) -> Result<(), Refusal> {
+    if !power_allowed(u64::from(power)) {
+        return Err(Refusal::POWER);
+    }
+    in_order_and_range(ids)
+}
+
 /// Writes the column of the pairs, of the edition with this number, to the front of `out`, and gives
-/// its byte count.
+/// its byte count. Told edition 4, it plans for itself.
 pub fn write(
     ids: &[u32],
     values: &[i64],
@@ -144,23 +159,55 @@ pub fn write(
     if ids.len() != values.len() {
         return Err(Refusal::LENGTHS);
     }
-    let stored_as = values::Edition::numbered(edition.into()).ok_or(Refusal::EDITION)?;
-    if !power_allowed(u64::from(power)) {
-        return Err(Refusal::POWER);
+    let edition = Edition::numbered(edition.into()).ok_or(Refusal::EDITION)?;
+    can_be_written(ids, power)?;
+    if edition != Edition::Table {
+        return write_as(&Layout::of(values, edition), ids, values, power, out);
     }
-    in_order_and_range(ids)?;
+    let mut table = [0; table::MOST];
+    let entries = table::propose(values, &mut table);
+    let layout = Layout::planned(values, &table[..entries]);
+    write_as(&layout, ids, values, power, out)
+}
+
+/// Writes the column of the pairs by a plan (document 02, [12]): a table gives edition 4, and none at all,
+/// which is plain, edition 1.
+pub fn write_planned(
+    ids: &[u32],
+    values: &[i64],
+    plan: &[i64],
+    power: u32,
+    out: &mut [u8],
+) -> Result<u64, Refusal> {
+    if ids.len() != values.len() {
+        return Err(Refusal::LENGTHS);
+    }
+    can_be_written(ids, power)?;
+    if !table::accepts(plan, values) {
+        return Err(Refusal::PLAN);
+    }
+    write_as(&Layout::planned(values, plan), ids, values, power, out)
+}
+
+/// ROOM is all that is left to be refused.
+fn write_as(
+    stored: &Layout,
+    ids: &[u32],
+    values: &[i64],
+    power: u32,
+    out: &mut [u8],
+) -> Result<u64, Refusal> {
     let layout = ids::Layout::of(ids, power);
-    let plan = values::Plan::of(values, stored_as);
     let column = Column {
-        edition: u64::from(edition),
+        edition: stored.edition.number(),
         count: ids.len() as u64,
         power: u64::from(power),
         id_bytes: layout.bytes(),
         jump_count: layout.jump_count(),
-        width: u64::from(plan.width),
-        smallest_number: header::zigzag(plan.smallest),
-        divisor: plan.divisor,
-        value_bytes: plan.value_bytes,
+        width: u64::from(stored.width),
+        smallest_number: header::zigzag(stored.smallest),
+        divisor: stored.divisor,
+        value_bytes: stored.value_bytes,
         start: 0,
     };
     let (head, head_len) = column.encode();
@@ -172,7 +219,7 @@ pub fn write(
     let (id_out, value_out) = rest.split_at_mut(column.id_bytes as usize);
     head_out.copy_from_slice(&head[..head_len]);
     layout.write(ids, id_out);
-    plan.write(values, value_out);
+    stored.write(values, value_out);
     Ok(needed)
 }
 

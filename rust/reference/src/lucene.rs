@@ -39,6 +39,14 @@ pub(crate) fn fetch(section: &[u8], width: u32, i: usize) -> u64 {
     })
 }
 
+/// Whether the bits after so many numbers are 0, up to the end of the last byte.
+pub(crate) fn spare_clear(section: &[u8], count: usize, width: u32) -> bool {
+    let spare = section.len() * 8 - count * width as usize;
+    section
+        .last()
+        .is_none_or(|last| last & !(0xFF_u8 >> spare) == 0)
+}
+
 #[cfg(test)]
 mod tests {
     use super::*;

@@ -3,7 +3,9 @@
 use core::ops::Range;
 
 use crate::header::take_number;
-use crate::values::{divisor_of, fetch, least_width, pack, section_bytes, sum, Edition};
+use crate::values::{
+    divisor_of, fetch, least_width, pack, section_bytes, spare_clear, sum, Edition,
+};
 use crate::{open, Column, Refusal, MAX_WIDTH};
 
 /// Values in a run; the last one may have fewer.
@@ -65,6 +67,11 @@ impl Summary {
         section_bytes(count as u64, self.width.into())
     }
 
+    /// Its bytes, where they are there.
+    fn own<'a>(&self, packed: &'a [u8], count: usize) -> &'a [u8] {
+        &packed[self.start as usize..][..self.bytes(count) as usize]
+    }
+
     /// Stored number `k` of the run. None for a width above 64, or where it reaches past the section;
     /// width 0 reaches nowhere.
     #[inline]
@@ -110,16 +117,7 @@ impl Summary {
         }
         (smallest, greatest) == (self.smallest, self.greatest)
             && least_width(greatest.abs_diff(smallest) / divisor) == u32::from(self.width)
-            && self.spare_bits_clear(packed, count)
-    }
-
-    /// Those after the last of so many numbers, up to the end of its byte.
-    fn spare_bits_clear(&self, packed: &[u8], count: usize) -> bool {
-        let spare = 8 * self.bytes(count) - count as u64 * u64::from(self.width);
-        spare == 0 || {
-            let end = self.start + self.bytes(count);
-            packed[end as usize - 1] & ((1 << spare) - 1) == 0
-        }
+            && spare_clear(self.own(packed, count), count, self.width.into())
     }
 }
 

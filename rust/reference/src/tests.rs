@@ -7,157 +7,19 @@ mod judge;
 mod layered;
 mod next;
 mod page;
+mod plain;
+mod plans;
 mod runs;
 mod set;
+mod table;
 
 use std::collections::BTreeMap;
 
 use super::*;
-
-fn put_number(out: &mut Vec<u8>, mut number: u128) {
-    while number >= 128 {
-        out.push((number % 128 + 128) as u8);
-        number /= 128;
-    }
-    out.push(number as u8);
-}
-
-fn put_low_first(out: &mut Vec<u8>, number: usize, bytes: usize) {
-    out.extend((0..bytes).map(|i| (number >> (8 * i)) as u8));
-}
+use plain::{plain_column, put_low_first, put_number};
 
 /// The numbers of the editions.
-const EDITIONS: [u32; 3] = [1, 2, 3];
-
-/// The documents' rules one by one, with no thought of speed.
-fn plain_column(pairs: &BTreeMap<u32, i64>, edition: u32, power: u32) -> Vec<u8> {
-    let mut blocks: BTreeMap<usize, Vec<usize>> = BTreeMap::new();
-    for &id in pairs.keys() {
-        let block = blocks.entry(id as usize / 65536).or_default();
-        block.push(id as usize % 65536);
-    }
-    let mut section = Vec::new();
-    let mut entries = Vec::new();
-    let mut before = 0;
-    for (&number, places) in &blocks {
-        entries.resize(number + 1, (before, section.len()));
-        put_low_first(&mut section, number, 2);
-        put_low_first(&mut section, places.len() - 1, 2);
-        match places.len() {
-            1..=4095 => places
-                .iter()
-                .for_each(|&x| put_low_first(&mut section, x, 2)),
-            65536 => {}
-            _ => {
-                for stride in (0..65536).step_by(1 << power).filter(|_| power > 0) {
-                    let rank = places.iter().filter(|&&x| x < stride).count();
-                    section.extend([(rank / 256) as u8, (rank % 256) as u8]);
-                }
-                let mut bitmap = vec![0; 8192];
-                places.iter().for_each(|&x| bitmap[x / 8] |= 1 << (x % 8));
-                section.extend(bitmap);
-            }
-        }
-        before += places.len();
-    }
-    entries.push((before, section.len()));
-    if entries.len() == 2 {
-        entries.clear();
-    }
-    section.extend([0xFF, 0x7F, 0, 0, 0xFF, 0xFF]);
-    for &(ids, start) in &entries {
-        put_low_first(&mut section, ids, 4);
-        put_low_first(&mut section, start, 4);
-    }
-
-    let exact: Vec<i128> = pairs.values().map(|&v| i128::from(v)).collect();
-    let smallest = exact.iter().copied().min().unwrap_or(0);
-    let greatest = exact.iter().copied().max().unwrap_or(0);
-    let mut divisor = 1;
-    if smallest != greatest {
-        let differences = exact.iter().map(|v| (v - exact[0]).unsigned_abs());
-        divisor = differences.fold(0, plain_gcd);
-    }
-    let (smallest, width, packed) = match edition {
-        3 => (0, 0, plain_runs(&exact, divisor)),
-        _ => {
-            let (width, packed) = plain_packed(&exact, divisor, edition);
-            (smallest, width, packed)
-        }
-    };
-    let least = if smallest >= 0 {
-        2 * smallest
-    } else {
-        -2 * smallest - 1
-    };
-    let mut out = Vec::new();
-    for number in [
-        edition as usize,
-        pairs.len(),
-        power as usize,
-        section.len(),
-        entries.len(),
-        width,
-    ] {
-        put_number(&mut out, number as u128);
-    }
-    put_number(&mut out, least as u128);
-    put_number(&mut out, divisor);
-    put_number(&mut out, packed.len() as u128);
-    out.extend(section);
-    out.extend(packed);
-    out
-}
-
-/// The width of these values, and their bits in bytes.
-fn plain_packed(exact: &[i128], divisor: u128, edition: u32) -> (usize, Vec<u8>) {
-    let smallest = exact.iter().copied().min().unwrap_or(0);
-    let greatest = exact.iter().copied().max().unwrap_or(0);
-    let spread = (greatest - smallest) as u128 / divisor;
-    let mut widths: Vec<usize> = (0..=64).collect();
-    if edition == 2 {
-        widths = vec![0, 1, 2, 4, 8, 12, 16, 20, 24, 28, 32, 40, 48, 56, 64];
-    }
-    let suffices = |&w: &usize| spread < 1 << w;
-    let width = widths.into_iter().find(suffices).expect("64 is enough");
-    let mut bits = Vec::new();
-    for v in exact {
-        let stored = (v - smallest) as u128 / divisor;
-        let low_first = (0..width).map(|bit| stored >> bit & 1 == 1);
-        match edition {
-            2 => bits.extend(low_first),
-            _ => bits.extend(low_first.rev()),
-        }
-    }
-    let mut packed = vec![0u8; bits.len().div_ceil(8)];
-    for (j, _) in bits.iter().enumerate().filter(|(_, &bit)| bit) {
-        packed[j / 8] |= 1 << if edition == 2 { j % 8 } else { 7 - j % 8 };
-    }
-    (width, packed)
-}
-
-/// The value section of edition 3: the directory, and then the runs' bytes.
-fn plain_runs(exact: &[i128], divisor: u128) -> Vec<u8> {
-    let (mut directory, mut runs) = (Vec::new(), Vec::new());
-    for run in exact.chunks(16384) {
-        let (width, packed) = plain_packed(run, divisor, 3);
-        // Two's complement: the eight low bytes of a number that is exact.
-        directory.extend(&run.iter().min().unwrap().to_le_bytes()[..8]);
-        directory.extend(&run.iter().max().unwrap().to_le_bytes()[..8]);
-        put_low_first(&mut directory, runs.len(), 8);
-        directory.push(width as u8);
-        runs.extend(packed);
-    }
-    [directory, runs].concat()
-}
-
-fn plain_gcd(a: u128, b: u128) -> u128 {
-    if b == 0 {
-        a
-    } else {
-        plain_gcd(b, a % b)
-    }
-}
+const EDITIONS: [u32; 4] = [1, 2, 3, 4];
 
 /// A small generator (xorshift with a multiplied output).
 struct Random(u64);
@@ -193,9 +55,14 @@ fn some_pairs(random: &mut Random) -> BTreeMap<u32, i64> {
         _ => 32 + random.below(32),
     };
     let rest = random.below(step as u64) as i64;
-    ids.into_iter()
-        .map(|id| (id, (random.next() as i64 >> width) * step + rest))
-        .collect()
+    let mut value = || (random.next() as i64 >> width) * step + rest;
+    // Often few distinct ones.
+    let few: Vec<i64> = (0..ids.len() % 300).map(|_| value()).collect();
+    let mut values: Vec<i64> = ids.iter().map(|_| value()).collect();
+    if !few.is_empty() && random.below(3) == 0 {
+        values.fill_with(|| few[random.below(few.len() as u64) as usize]);
+    }
+    ids.into_iter().zip(values).collect()
 }
 
 #[test]
@@ -270,7 +137,7 @@ fn looks_up_what_the_list_holds() {
     for round in 0..30 {
         let pairs = some_pairs(&mut random);
         let power = [0, 7, 9, 12, 15][round % 5];
-        let column = plain_column(&pairs, EDITIONS[round % 3], power);
+        let column = plain_column(&pairs, EDITIONS[round % 4], power);
         let opened = open(&column).expect("a written column opens");
         let listed: Vec<u32> = pairs.keys().copied().collect();
         for _ in 0..500 {

@@ -1,7 +1,7 @@
 //! The value section: smallest value, divisor, width, and the packed numbers. That of edition 3 stands in
-//! `runs`.
+//! `runs`, that of edition 4 in `table`.
 
-use crate::{lucene, runs, Column, MAX_WIDTH};
+use crate::{lucene, runs, table, Column, MAX_WIDTH};
 
 /// The editions: they differ in the value section, and in what the header says of it.
 #[derive(Clone, Copy, PartialEq, Eq)]
@@ -12,6 +12,8 @@ pub(crate) enum Edition {
     Lucene,
     /// Document 02's, [11].
     Runs,
+    /// Document 02's, [12].
+    Table,
 }
 
 impl Edition {
@@ -20,11 +22,21 @@ impl Edition {
             1 => Some(Self::Plain),
             2 => Some(Self::Lucene),
             3 => Some(Self::Runs),
+            4 => Some(Self::Table),
             _ => None,
         }
     }
 
-    /// The header rules on w, on the smallest value and on V; n is within its limit.
+    pub fn number(self) -> u64 {
+        match self {
+            Self::Plain => 1,
+            Self::Lucene => 2,
+            Self::Runs => 3,
+            Self::Table => 4,
+        }
+    }
+
+    /// The header rules on w, on the smallest value, on g and on V; n is within its limit.
     pub fn keeps_the_rules(self, column: &Column) -> bool {
         let (count, width) = (column.count, column.width);
         match self {
@@ -35,14 +47,15 @@ impl Edition {
                 let no_numbers = column.smallest_number == 0 && width == 0;
                 no_numbers && column.value_bytes >= runs::directory_bytes(count)
             }
+            Self::Table => table::keeps_the_rules(column),
         }
     }
 
     /// The least width whose numbers go up to this one.
-    fn width_for(self, most: u64) -> u32 {
+    pub fn width_for(self, most: u64) -> u32 {
         match self {
             Self::Lucene => lucene::width_for(most),
-            Self::Plain | Self::Runs => least_width(most),
+            Self::Plain | Self::Runs | Self::Table => least_width(most),
         }
     }
 }
@@ -55,59 +68,6 @@ pub(crate) fn least_width(most: u64) -> u32 {
 /// n times w over 8, rounded up.
 pub(crate) fn section_bytes(count: u64, width: u64) -> u64 {
     (count * width).div_ceil(8)
-}
-
-/// How a list of values is stored: the header's numbers of it, and the bytes of the section.
-pub(crate) struct Plan {
-    pub smallest: i64,
-    pub divisor: u64,
-    pub width: u32,
-    pub value_bytes: u64,
-    edition: Edition,
-}
-
-impl Plan {
-    pub fn of(values: &[i64], edition: Edition) -> Self {
-        let divisor = divisor_of(values.iter().copied());
-        if edition == Edition::Runs {
-            // The runs have a smallest value and a width each, and the header none.
-            return Self {
-                smallest: 0,
-                divisor,
-                width: 0,
-                value_bytes: runs::value_bytes(values, divisor),
-                edition,
-            };
-        }
-        let smallest = values.iter().copied().min().unwrap_or(0);
-        let greatest = values.iter().copied().max().unwrap_or(0);
-        let width = edition.width_for(greatest.abs_diff(smallest) / divisor);
-        Self {
-            smallest,
-            divisor,
-            width,
-            value_bytes: section_bytes(values.len() as u64, width.into()),
-            edition,
-        }
-    }
-
-    /// Writes the section; `out` has exactly its bytes.
-    pub fn write(&self, values: &[i64], out: &mut [u8]) {
-        match self.edition {
-            Edition::Runs => runs::write(values, self.divisor, out),
-            _ if self.width == 0 => {}
-            Edition::Lucene => {
-                let stored = |value: &i64| value.abs_diff(self.smallest) / self.divisor;
-                lucene::pack(out, self.width, values.iter().map(stored));
-            }
-            Edition::Plain if self.divisor == 1 => {
-                pack(out, self.width, values, |v| v.abs_diff(self.smallest));
-            }
-            Edition::Plain => pack(out, self.width, values, |v| {
-                v.abs_diff(self.smallest) / self.divisor
-            }),
-        }
-    }
 }
 
 /// g: the greatest common divisor of each value's difference to the first value (document 02, [2]); 1
@@ -160,6 +120,7 @@ pub(crate) fn pack(out: &mut [u8], width: u32, values: &[i64], stored: impl Fn(i
 pub(crate) fn value_at(column: &Column, section: &[u8], ordinal: usize) -> Option<i64> {
     match column.edition {
         3 => runs::value_at(column, section, ordinal),
+        4 => table::value_at(column, section, ordinal),
         _ => value_of(column, stored(column, section, ordinal)),
     }
 }
@@ -207,8 +168,10 @@ pub(crate) fn sum(smallest: i64, divisor: u64, stored: u64) -> Option<i64> {
 
 /// All values, of a section known to be sound.
 pub(crate) fn read(column: &Column, section: &[u8], values: &mut [i64]) {
-    if column.edition == 3 {
-        return runs::read(column, section, values);
+    match column.edition {
+        3 => return runs::read(column, section, values),
+        4 => return table::read(column, section, values),
+        _ => {}
     }
     let smallest = column.smallest();
     if column.width == 0 {
@@ -221,6 +184,14 @@ pub(crate) fn read(column: &Column, section: &[u8], values: &mut [i64]) {
     }
 }
 
+/// Whether the bits after so many numbers are 0, up to the end of the last byte.
+pub(crate) fn spare_clear(packed: &[u8], count: usize, width: u32) -> bool {
+    let spare = packed.len() * 8 - count * width as usize;
+    packed
+        .last()
+        .is_none_or(|last| last & ((1 << spare) - 1) == 0)
+}
+
 /// Whether the section, with the header's smallest value, divisor and width, is what the writer
 /// makes of the values that it stands for.
 pub(crate) fn sound(column: &Column, section: &[u8]) -> bool {
@@ -228,8 +199,10 @@ pub(crate) fn sound(column: &Column, section: &[u8]) -> bool {
     let Some(edition) = Edition::numbered(column.edition) else {
         return false;
     };
-    if edition == Edition::Runs {
-        return runs::sound(column, section);
+    match edition {
+        Edition::Runs => return runs::sound(column, section),
+        Edition::Table => return table::sound(column, section),
+        Edition::Plain | Edition::Lucene => {}
     }
     if width == 0 {
         // All values are equal, or there are none.
@@ -238,12 +211,10 @@ pub(crate) fn sound(column: &Column, section: &[u8]) -> bool {
     if count == 0 {
         return false;
     }
-    let spare = section.len() * 8 - count * width as usize;
-    let spare_bits = match edition {
-        Edition::Lucene => !(0xFF_u8 >> spare),
-        _ => (1 << spare) - 1,
+    let spare_clear = match edition {
+        Edition::Lucene => lucene::spare_clear(section, count, width),
+        _ => spare_clear(section, count, width),
     };
-    let spare_clear = section.last().is_none_or(|last| last & spare_bits == 0);
     // A value that wraps is above the greatest one that fits: `value_of` tells below.
     let smallest = column.smallest();
     let value = |stored| smallest.wrapping_add_unsigned(column.divisor.wrapping_mul(stored));

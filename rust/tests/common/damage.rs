@@ -1,12 +1,14 @@
 //! Columns to damage, and every call on what becomes of them.
 
-use signalfern::{Refusal, MAX_ID};
+use signalfern::{Edition, Refusal, MAX_ID};
 
-use super::{few_ids, ids_of, pages, same, values_of_width, Random, EDITIONS, POWERS};
+use super::{
+    few_ids, ids_of, layers, pages, same, values_of_width, Random, EDITIONS, POWERS, SCALED,
+};
 
 /// How often each refusal came; 0 is for accepted bytes.
 #[derive(Default)]
-pub struct Tally(pub [usize; 17]);
+pub struct Tally(pub [usize; 18]);
 
 impl Tally {
     /// Tries every call on the bytes.
@@ -59,6 +61,23 @@ impl Tally {
     }
 }
 
+/// A header that every call refuses, but for the search for a value, which is for edition 3 alone.
+#[track_caller]
+pub fn refused_everywhere(bytes: &[u8], refusal: Refusal) {
+    assert_eq!(same::open(bytes).unwrap_err(), refusal);
+    assert_eq!(same::check(bytes), Err(refusal));
+    assert_eq!(same::read(bytes, 9, 9), Err(refusal));
+    assert_eq!(same::look_up(bytes, 0), Err(refusal));
+    assert_eq!(same::next(bytes, 7), Err(refusal));
+    let searched = same::first_between(bytes, 0, 9);
+    let in_runs = bytes.first() == Some(&3);
+    assert_eq!(
+        searched,
+        Err(if in_runs { refusal } else { Refusal::Edition })
+    );
+    assert_eq!(layers::look_up(bytes, bytes, 0).unwrap_err().1, refusal);
+}
+
 /// Ranges to search for: all values, some of the small columns', and none.
 const RANGES: [(i64, i64); 5] = [
     (i64::MIN, i64::MAX),
@@ -79,12 +98,13 @@ pub fn small_columns(random: &mut Random) -> Vec<Vec<u8>> {
         add(&[0, 2, 7], &[150, 140, 135], edition, 9);
         add(&[65_536], &[-1], edition, 0);
         add(&[1, 2], &[i64::MIN, i64::MAX], edition, 7);
+        add(&[0, 2, 7, 9], &[1, i64::MIN, 0, 1], edition, 9);
     }
     for round in 0..16 {
         let ids = few_ids(random, 8);
         let width = random.below(65) as u32;
         let values = values_of_width(random, ids.len(), width);
-        add(&ids, &values, EDITIONS[round % 3], random.pick(&POWERS));
+        add(&ids, &values, EDITIONS[round % 4], random.pick(&POWERS));
     }
     columns.retain(|column| column.len() < 400);
     columns
@@ -116,9 +136,17 @@ pub fn large_columns(random: &mut Random) -> Vec<Vec<u8>> {
         let values = values_of_width(random, ids.len(), 3);
         // Three bits in editions 1 and 3, four in edition 2.
         let powers = [0, random.pick(&POWERS[1..]), random.pick(&POWERS)];
-        for (edition, power) in EDITIONS.into_iter().zip(powers) {
+        for (edition, power) in SCALED.into_iter().zip(powers) {
             columns.push(signalfern::write_to_vec(&ids, &values, edition, power).unwrap());
         }
+        // Codes of two bits.
+        let table = [i64::MIN, 0, 1];
+        let few: Vec<i64> = values
+            .iter()
+            .map(|value| table[*value as usize % 3])
+            .collect();
+        let power = random.pick(&POWERS);
+        columns.push(signalfern::write_to_vec(&ids, &few, Edition::Table, power).unwrap());
     }
     columns
 }

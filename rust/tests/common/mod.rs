@@ -7,8 +7,10 @@ pub mod layers;
 pub mod listed;
 pub mod pages;
 pub mod parts;
+pub mod plans;
 pub mod runs;
 pub mod same;
+pub mod tables;
 pub mod tool;
 
 use signalfern::Edition;
@@ -41,8 +43,16 @@ impl Random {
     }
 }
 
-/// The editions.
-pub const EDITIONS: [Edition; 3] = [Edition::Plain, Edition::Lucene, Edition::Runs];
+/// The editions. Told the last, the writer gives it or the first.
+pub const EDITIONS: [Edition; 4] = [
+    Edition::Plain,
+    Edition::Lucene,
+    Edition::Runs,
+    Edition::Table,
+];
+
+/// Those in which a value is made of a stored number by the divisor.
+pub const SCALED: [Edition; 3] = [Edition::Plain, Edition::Lucene, Edition::Runs];
 
 /// Those whose header has the width and the smallest value of all stored numbers.
 pub const PACKED: [Edition; 2] = [Edition::Plain, Edition::Lucene];
@@ -100,17 +110,22 @@ pub fn few_ids(random: &mut Random, most: usize) -> Vec<u32> {
 }
 
 /// Values whose stored numbers have about the given width. They are multiples of a step, often with a
-/// rest that all of them share, which takes none past the limits.
+/// rest that all of them share, which takes none past the limits. One list in four has few distinct ones.
 pub fn values_of_width(random: &mut Random, count: usize, width: u32) -> Vec<i64> {
     let (step, rests) = random.pick(&[(1, 1), (1, 1), (2, 2), (5, 3), (1000, 800)]);
     let rest = random.below(rests) as i64;
     let low = random.pick(&[0, 0, 7, -9, 1 << 40, i64::MIN, i64::MAX]);
-    (0..count)
+    let mut values: Vec<i64> = (0..count)
         .map(|_| {
             let stored = random.next().checked_shr(64 - width).unwrap_or(0);
             low.wrapping_add_unsigned(stored.wrapping_mul(step)) / step as i64 * step as i64 + rest
         })
-        .collect()
+        .collect();
+    if random.one_in(4) {
+        let few = random.pick(&[2, 3, 4, 5, 16, 17, 255, 256, 257]);
+        (few..count).for_each(|i| values[i] = values[random.below(few)]);
+    }
+    values
 }
 
 /// Bytes from their hexadecimal digits.

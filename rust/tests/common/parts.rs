@@ -88,10 +88,12 @@ impl Parts {
         parts.bytes()
     }
 
-    /// Where the stored numbers start in the value section: edition 3 has its directory before them.
+    /// Where the stored numbers start in the value section: edition 3 has its directory before them, and
+    /// edition 4 its table.
     pub fn packed_at(&self) -> usize {
         match self.numbers[EDITION] {
             3 => 25 * self.numbers[COUNT].div_ceil(16_384) as usize,
+            4 => 8 * self.numbers[STEP] as usize,
             _ => 0,
         }
     }
@@ -116,7 +118,11 @@ impl Parts {
     /// The stored numbers of a sound column, taken bit by bit; in edition 3 of one run.
     pub fn stored(&self) -> Vec<u64> {
         let (count, width) = (self.numbers[COUNT] as usize, self.width());
-        assert!(self.packed_at() <= 25, "more runs than one");
+        let runs = self.numbers[COUNT].div_ceil(16_384);
+        assert!(
+            self.numbers[EDITION] != 3 || runs <= 1,
+            "more runs than one"
+        );
         let packed = &self.values[self.packed_at()..];
         let mut stored = vec![0; count];
         for j in 0..count * width {

@@ -18,14 +18,18 @@ returns-3 c = rw (c .match .keys3)
 
 returns-4 : tie.Need-returns-4
 unfolding numberOf editions editionIn
-returns-4 c =
+returns-4 c = rw (c .match .keys4)
+
+returns-5 : tie.Need-returns-5
+unfolding numberOf editions editionIn
+returns-5 c =
     let n = c .before .args .number in
     rw (
       ne-eqb n 1 (λ e. omega (arith, c .match .rest, e)),
       ne-eqb n 2 (λ e. omega (arith, c .match .rest, e)),
-      ne-eqb n 3
-          (λ e. omega (arith, c .match .rest, e)),
+      ne-eqb n 3 (λ e. omega (arith, c .match .rest, e)),
+      ne-eqb n 4 (λ e. omega (arith, c .match .rest, e)),
     )
 
 pub edition-in-spec : {M : Type 1} → statement M
-edition-in-spec = tie.close (tie.spec returns returns-2 returns-3 returns-4)
+edition-in-spec = tie.close (tie.spec returns returns-2 returns-3 returns-4 returns-5)

@@ -1,5 +1,5 @@
 -- `run_values::rules` meets its contract. Assumes nothing.
-use Rattle.format.specs.Kit.{ℕ, sym, ap, _∙_, leb, le-leb, lt-leb, eq-eqb, ne-eqb, needs}
+use Rattle.format.specs.Kit.{sym, _∙_, le-leb, lt-leb, eq-eqb, ne-eqb, needs}
 use Rattle.format.specs.Replies.{fieldsOf}
 use Rattle.format.proofs.Editions.{runs-rules}
 use Rattle.run_values.proofs.rules.Statement.{statement}
@@ -34,8 +34,7 @@ returns-3 c =
 
 returns-4 : tie.Need-returns-4
 returns-4 c =
-    let t = c .before in
-    let b = t .before .before in
+    let b = c .before .before in
     let a = b .before .before .before .before .args in
     sym
     (runs-rules (a .n) (fieldsOf (a .fields)) (a .v)
@@ -43,9 +42,8 @@ returns-4 c =
       eq-eqb (a .fields .width) 0 (b .before .before .if1 .left),
       eq-eqb (a .fields .smallest) 0 (b .if2 .left),
       le-leb 1 (a .fields .divisor)
-          (t .if3 .left),
-    )
-    (ap (λ (d : ℕ). leb d (a .v)) (sym (c .directory-length .ensures))))
+          (c .if3 .left),
+    ))
 
 pub rules-spec : {M : Type 1} → statement M
-rules-spec = tie.close (tie.spec returns returns-2 returns-3 (λ c κs. search needs) returns-4)
+rules-spec = tie.close (tie.spec returns returns-2 returns-3 (λ c. search needs) (λ c. search needs) returns-4)

@@ -1,74 +1,55 @@
 -- `writer::write_as` meets its contract. Assumes nothing.
-use Rattle.format.specs.Kit.{_≡_, ap, _∙_, arith, _+_, length, sets, needs}
-use Rattle.format.specs.Pairs.{Valid}
-use Rattle.format.specs.Column.{column}
+use Rattle.format.specs.Kit.{_≡_, sym, ap, _∙_, List, ℕ, length, needs}
+use Rattle.format.specs.Refusals.{Outcome}
+use Rattle.format.specs.Editions.{Edition}
+use Rattle.format.specs.Plan.{chosen}
+use Rattle.format.specs.Writer.{writeAs, writeReply, writeOut}
 use Rattle.values.specs.Edition.{editionOf}
-use Rattle.column.specs.Opened.{headIs}
-use Rattle.writer.proofs.Written.{asked-why, fine-valid, refused-both, own-plan, own-column, total-is, too-long, done-both}
+use Rattle.writer.specs.Asked.{Passed}
+use Rattle.writer.proofs.Written.{fine-passed, why-as, no-plan, chosen-all, refused-both}
 use Rattle.writer.proofs.write_as.Statement.{statement}
 use Rattle.writer.proofs.write_as.Tie as tie
-
--- refusals 1 to 4 do not come: the lists are what the writer takes
-valid : (c : tie.After-plan)
-    → (let a = c .before .before .before .before .before .before .args in Valid (a .power) (a .ids .now) (a .values .now))
-valid c =
-    let r = c .before .before .before .refusal-of in
-    let a = c .before .before .before .before .before .before .args in
-    fine-valid (a .power) (a .ids .now) (a .values .now) (r .result) (r .ensures) (c .before .enum-told .given .1) (c .plan .ensures .1)
-
--- the sum of the three lengths is the column's
-total : (c : tie.After-long)
-    → (let a = c .before .before .before .before .before .before .before .before .before .args in
-    let h = headIs (c .before .before .plan2 .result) in
-    c .long .result + h .idBytes + h .valueBytes ≡ length (column (editionOf (a .edition)) (a .power) (a .ids .now) (a .values .now)))
-total c =
-    let a = c .before .before .before .before .before .before .before .before .before .args in
-    let q = c .before .before .plan2 in
-    total-is (editionOf (a .edition)) (a .power) (a .ids .now) (a .values .now) (headIs (q .result)) (q .ensures) _
-    (c .long .ensures ∙ c .before .header-len .ensures .0)
 
 returns : tie.Need-returns
 returns c =
     let r = c .before .before .before in
     let a = r .before .before .before .args in
     refused-both _ (a .out .now)
-    (asked-why (a .power) (a .ids .now) (a .values .now) (editionOf (a .edition)) (length (a .out .now)) (r .refusal-of .result) _
-    (r .refusal-of .ensures) (c .before .a .given .1))
+    (why-as (a .power) (a .ids .now) (a .values .now) (length (a .out .now)) (r .refusal-of .result) _ (r .refusal-of .ensures) (c .before .a .given .1)
+    (chosen (editionOf (a .edition)) (a .values .now)))
 
-plan-requires-2 : tie.Need-plan-requires-2
-plan-requires-2 c κs = (valid c, c .plan .ensures .0)
+-- nothing is refused
+passed : (c : tie.After-by-plan) → let a = c .before .before .before .before .before .before .args in Passed (a .power) (a .ids .now) (a .values .now)
+passed c =
+    let r = c .before .before .before in
+    let a = r .before .before .before .args in
+    fine-passed (a .power) (a .ids .now) (a .values .now) (r .refusal-of .result) (r .refusal-of .ensures) (c .before .enum-told .given .1)
 
+-- by the planner's plan
 returns-2 : tie.Need-returns-2
 returns-2 c =
-    let n = c .before .before .before .before in
-    let s = n .before .before .before in
-    let a = s .before .before .before .before .before .before .args in
-    refused-both _ (a .out .now)
-    (too-long (editionOf (a .edition)) (a .power) (a .ids .now) (a .values .now) (a .out .now) (valid s) (total n)
-    (omega (arith, c .if1 .taken, c .before .long2 .ensures)))
+    let w = c .before .before in
+    let b = w .before .before .before in
+    let a = b .before .before .before .before .before .before .args in
+    let same =
+    ap (λ (ed : Edition). writeAs (chosen ed (a .values .now)) (a .power) (a .ids .now) (a .values .now) (length (a .out .now))) (sym (b .by-plan .ensures .0 (w .before .before .if1 .taken))) in
+    (w .write-own .ensures .0 ∙ ap writeReply same, w .write-own .ensures .1 ∙ ap (λ (o : Outcome (List ℕ)). writeOut o (a .out .now)) same)
 
-put-column-requires : tie.Need-put-column-requires
-put-column-requires c κs =
-    let n = c .before .before .before .before .before in
-    let q = n .before .before .plan2 in
-    let s = n .before .before .before in
-    let a = s .before .before .before .before .before .before .args in
-    let own = ap length (own-column (editionOf (a .edition)) (a .power) (a .ids .now) (a .values .now) (headIs (q .result)) (q .ensures)) in (
-      valid s,
-      own-plan (editionOf (a .edition)) (a .power) (a .ids .now) (a .values .now) (headIs (q .result)) (q .ensures),
-      omega (arith, own, total n, c .before .if1 .left, c .before .before .long2 .ensures),
-    )
+write-by-requires : tie.Need-write-by-requires
+write-by-requires c κs =
+    let b = c .before .before .before in
+    let a = b .before .before .before .before .before .before .args in
+    (passed b, no-plan (editionOf (a .edition)) _ (a .values .now) (b .by-plan .ensures .1 (c .before .before .if1 .left)))
 
 returns-3 : tie.Need-returns-3
 returns-3 c =
-    let n = c .before .before .before .before .before .before .before .before in
-    let q = n .before .before .plan2 in
-    let s = n .before .before .before in
-    let a = s .before .before .before .before .before .before .args in
-    done-both (editionOf (a .edition)) (a .power) (a .ids .now) (a .values .now) (a .out .now) (valid s) (total n)
-    (omega (arith, c .before .before .before .before .if1 .left, c .before .before .before .before .before .long2 .ensures))
-    (c .before .before .put-column .ensures
-    ∙ ap (sets (a .out .now) 0) (own-column (editionOf (a .edition)) (a .power) (a .ids .now) (a .values .now) (headIs (q .result)) (q .ensures)))
+    let w = c .before .before in
+    let b = w .before .before .before .before in
+    let a = b .before .before .before .before .before .before .args in
+    let same =
+    ap (λ (ed : Edition). writeAs ed (a .power) (a .ids .now) (a .values .now) (length (a .out .now)))
+    (sym (chosen-all (editionOf (a .edition)) (a .values .now) (b .by-plan .ensures .1 (w .before .before .before .if1 .left)))) in
+    (w .write-by .ensures .0 ∙ ap writeReply same, w .write-by .ensures .1 ∙ ap (λ (o : Outcome (List ℕ)). writeOut o (a .out .now)) same)
 
 pub write-as-spec : {M : Type 1} → statement M
 write-as-spec =
@@ -76,9 +57,10 @@ write-as-spec =
     (λ c κs. search needs) (λ c. search needs)
     returns
     (λ c. search needs) (λ c κs. search needs)
-    plan-requires-2
-    (λ c κs. search needs) (λ c κs. search needs) (λ c. search needs) (λ c. search needs) (λ c κs. search needs)
+    (λ c κs. passed (c .before .before))
+    (λ c. search needs)
     returns-2
-    put-column-requires
+    (λ c. search needs)
+    write-by-requires
     (λ c. search needs)
     returns-3)

@@ -35,7 +35,7 @@ fn a_width_that_is_not_in_the_list() {
 
 #[test]
 fn told_another_edition() {
-    for edition in [0, 4, 5, 257, u32::MAX] {
+    for edition in [0, 5, 6, 257, u32::MAX] {
         let refused = |ids: &[u32], values: &[i64], power| {
             write(ids, values, edition, power, &mut [0; 99]).unwrap_err()
         };

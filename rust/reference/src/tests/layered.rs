@@ -50,7 +50,7 @@ fn as_the_two_lists_have_it() {
         let powers = ([0, 7, 9, 15][round % 4], [9, 0, 12][round % 3]);
         let (machine, correction) = (some_pairs(&mut random), some_pairs(&mut random));
         // Each of its own edition.
-        let editions = (EDITIONS[round % 3], EDITIONS[round / 3 % 3]);
+        let editions = (EDITIONS[round % 4], EDITIONS[round / 4 % 4]);
         let machine_bytes = plain_column(&machine, editions.0, powers.0);
         let correction_bytes = plain_column(&correction, editions.1, powers.1);
         let opened = (open(&machine_bytes), open(&correction_bytes));

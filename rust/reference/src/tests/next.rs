@@ -46,7 +46,7 @@ fn block_by_block_as_id_by_id() {
         if pairs.is_empty() {
             continue;
         }
-        let edition = EDITIONS[round / 4 % 3];
+        let edition = EDITIONS[round / 4 % 4];
         let mut column = plain_column(&pairs, edition, [0, 7, 9, 15][round % 4]);
         for _ in 0..6 {
             for _ in 0..4 {
@@ -79,7 +79,7 @@ fn as_the_list_has_it() {
     let mut random = Random(6);
     for round in 0..40 {
         let pairs = some_pairs(&mut random);
-        let column = plain_column(&pairs, EDITIONS[round % 3], [0, 7, 9, 12, 15][round % 5]);
+        let column = plain_column(&pairs, EDITIONS[round % 4], [0, 7, 9, 12, 15][round % 5]);
         let opened = open(&column).expect("a written column opens");
         let ids: Vec<u32> = pairs.keys().copied().collect();
         let values: Vec<i64> = pairs.values().copied().collect();

@@ -39,7 +39,7 @@ fn each_place_as_the_single_look_up() {
     for round in 0..25 {
         let pairs = some_pairs(&mut random);
         let listed: Vec<u32> = pairs.keys().copied().collect();
-        let edition = EDITIONS[round / 4 % 3];
+        let edition = EDITIONS[round / 4 % 4];
         let mut column = plain_column(&pairs, edition, [0, 7, 9, 15][round % 4]);
         for damaged in [false, true] {
             if damaged {

@@ -6,6 +6,7 @@ use std::ops::Range;
 use signalfern::{Column, Layer, LayeredAnswer, Refusal};
 
 use crate::arguments::Arguments;
+use crate::codes::{entry_at, Coded};
 use crate::column::Asked;
 use crate::failure::Failure;
 use crate::load::Loaded;
@@ -72,22 +73,28 @@ struct Stored<'a> {
     packing: Packing,
     /// Its run, in edition 3.
     run: Option<Run>,
+    /// The table, in edition 4.
+    table: Option<Coded<'a>>,
 }
 
 impl<'a> Stored<'a> {
     /// None of an edition whose packing the tool does not know.
     fn new(column: Column<'a>, section: &'a [u8], ordinal: u64) -> Option<Self> {
         let packing = Packing::of(column.edition().number().into())?;
-        let (run, bits) = match packing {
+        let (count, width) = (column.count(), column.width());
+        let (mut run, mut table) = (None, None);
+        let bits = match packing {
             Packing::Runs => {
-                let run = Run::at(column.count(), section, ordinal / runs::LENGTH)?;
-                let bits = run.bits(column.count(), ordinal % runs::LENGTH)?;
-                (Some(run), bits)
+                let own = *run.insert(Run::at(count, section, ordinal / runs::LENGTH)?);
+                own.bits(count, ordinal % runs::LENGTH)?
             }
-            _ => {
-                let width = column.width() as usize;
-                let first = ordinal as usize * width;
-                (None, first..first + width)
+            Packing::Table => {
+                let coded = Coded::new(count, width, column.divisor(), section);
+                table.insert(coded).bits(ordinal)
+            }
+            Packing::HighFirst | Packing::LowFirst => {
+                let first = (ordinal * width) as usize;
+                first..first + width as usize
             }
         };
         Some(Self {
@@ -98,7 +105,36 @@ impl<'a> Stored<'a> {
             bits,
             packing,
             run,
+            table,
         })
+    }
+
+    /// How a stored number gives the value, if it does.
+    fn sum(&self, number: u64, value: i64) -> Option<String> {
+        if let Some(table) = &self.table {
+            let is_entry = table.table.get(number as usize) == Some(&value);
+            return is_entry.then(|| format!("entry {number} of the table is {value}"));
+        }
+        let smallest = (self.run).map_or(self.column.smallest(), |run| run.smallest);
+        let divisor = self.column.divisor();
+        let sum = i128::from(smallest) + i128::from(divisor) * i128::from(number);
+        (sum == i128::from(value)).then(|| format!("{smallest} + {divisor} * {number} = {value}"))
+    }
+
+    /// The bytes of the table's entry, and where.
+    fn entry_line(&self, number: u64) -> String {
+        if self.table.is_none() {
+            return String::new();
+        }
+        let at = entry_at(number as usize);
+        let place = byte_at(self.start + at);
+        let bytes: Vec<String> = (self.section[at..].iter().take(8))
+            .map(|byte| format!("{byte:02X}"))
+            .collect();
+        format!(
+            "  {place}: {}, entry {number}, low byte first\n",
+            bytes.join(" ")
+        )
     }
 
     /// What the directory says of the run, and where.
@@ -121,13 +157,8 @@ impl<'a> Stored<'a> {
 
     /// The lines about it; none if its bits do not give the value.
     fn lines(&self, value: i64) -> Option<String> {
-        let smallest = (self.run).map_or(self.column.smallest(), |run| run.smallest);
-        let divisor = self.column.divisor();
         let number = self.packing.number(self.section, self.bits.clone());
-        let sum = i128::from(smallest) + i128::from(divisor) * i128::from(number);
-        if sum != i128::from(value) {
-            return None;
-        }
+        let sum = self.sum(number, value)?;
         let run = self.run_line();
         if self.bits.is_empty() {
             let of_run = self.run.map_or("", |_| " of the run");
@@ -140,7 +171,7 @@ impl<'a> Stored<'a> {
         let (ordinal, first) = (self.ordinal, self.bits.start);
         let mut out = format!(
             "  value section: {bytes}, from {} on\n{run}  stored number {ordinal}: {number}, in {bits} \
-             from bit {first} of the section on; {smallest} + {divisor} * {number} = {value}\n",
+             from bit {first} of the section on; {sum}\n",
             byte_at(self.start)
         );
         for at in first / 8..=(self.bits.end - 1) / 8 {
@@ -149,6 +180,6 @@ impl<'a> Stored<'a> {
             let marked = self.packing.marked(self.section, at, &self.bits);
             let _ = writeln!(out, "  {place}: {byte:02X}  {marked}");
         }
-        Some(out)
+        Some(out + &self.entry_line(number))
     }
 }

@@ -12,13 +12,15 @@ use crate::output::{print, Output};
 use crate::text::named;
 
 /// What it leaves in its folder.
-const FILES: [&str; 6] = [
+const FILES: [&str; 8] = [
     "scores.txt",
     "scores.column",
     "again.txt",
     "correction.txt",
     "correction.column",
     "runs.column",
+    "few.txt",
+    "few.column",
 ];
 
 pub fn run(mut arguments: Arguments) -> Result<(), Failure> {
@@ -37,7 +39,7 @@ pub fn run(mut arguments: Arguments) -> Result<(), Failure> {
             return Err(Failure::Trouble(message));
         }
     }
-    let [list, column, again, fixes, correction, runs] = &files;
+    let [list, column, again, fixes, correction, runs, few, table] = &files;
     there_and_back(list, column, again)?;
     let ids = ["7", "8", "70001", "200000", "2147352575"].map(Path::new);
     step(&[&["look-up".as_ref(), column.as_path()], &ids[..]].concat())?;
@@ -45,6 +47,7 @@ pub fn run(mut arguments: Arguments) -> Result<(), Failure> {
     step(&[&["next".as_ref(), column.as_path()], &from[..]].concat())?;
     corrected(column, fixes, correction)?;
     in_runs(list, runs)?;
+    few_distinct(few, table)?;
     step(&["show".as_ref(), column])?;
     print(&format!("\nThe files are in {}\n", named(&folder)))
 }
@@ -78,6 +81,31 @@ fn in_runs(list: &Path, runs: &Path) -> Result<(), Failure> {
     let edition = ["--edition", "3"].map(Path::new);
     step(&[&["write".as_ref(), list, "-o".as_ref(), runs], &edition[..]].concat())?;
     step(&["find".as_ref(), runs, "185".as_ref(), "1000".as_ref()])
+}
+
+/// Few distinct scores that lie far apart, in the edition that suits them best.
+fn few_distinct(few: &Path, table: &Path) -> Result<(), Failure> {
+    let write = |out: &mut dyn Write| {
+        (0..1000).try_for_each(|id| {
+            let score = match id % 10 {
+                0 => 1_000_000_007,
+                1 | 2 => -1,
+                3 => 1,
+                _ => 0,
+            };
+            writeln!(out, "{id} {score}")
+        })
+    };
+    Output::open(few, false, &[])?.fill(write)?;
+    let words = [
+        "write".as_ref(),
+        few,
+        "-o".as_ref(),
+        table,
+        "--best".as_ref(),
+    ];
+    step(&words)?;
+    step(&["show".as_ref(), table])
 }
 
 /// A folder of our own among the temporary files, where others may make folders too.

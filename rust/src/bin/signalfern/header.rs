@@ -1,16 +1,9 @@
 //! The header as the tool reads it to explain a file. What is refused, the library decides.
 
-use signalfern::{power_allowed, MAX_COUNT};
-
 use crate::packing::Packing;
-use crate::runs;
-use crate::text::counted;
 
 /// The longest header: nine numbers of ten bytes.
 pub const LONGEST: usize = 90;
-/// Bytes of the end block.
-const END: u128 = 6;
-const MOST_JUMPS: u64 = 32_767;
 
 /// What the header's numbers are called, in order.
 pub const NAMES: [&str; 9] = [
@@ -114,11 +107,6 @@ impl Header {
         Packing::of(self.edition)
     }
 
-    /// Whether its values stand in runs.
-    pub fn in_runs(&self) -> bool {
-        self.packing() == Some(Packing::Runs)
-    }
-
     /// The bytes of the value section, as far as they are there; of a header that keeps the rules.
     pub fn values_in<'a>(&self, bytes: &'a [u8]) -> &'a [u8] {
         let start = usize::try_from(self.id_bytes).ok();
@@ -127,69 +115,21 @@ impl Header {
             .and_then(|start| bytes.get(start..))
             .unwrap_or_default()
     }
-
-    /// The first rule that is broken: the index of a number in it, and a sentence.
-    pub fn broken_rule(&self) -> Option<(usize, String)> {
-        self.broken_limit().or_else(|| self.broken_size())
-    }
-
-    fn broken_limit(&self) -> Option<(usize, String)> {
-        let (count, power, jumps, width) = (self.count, self.power, self.jump_count, self.width);
-        if count > MAX_COUNT {
-            let why = format!("{count} pairs, and at most {MAX_COUNT} are allowed");
-            return Some((1, why));
-        }
-        if !u32::try_from(power).is_ok_and(power_allowed) {
-            let why = format!("rank power {power}, and 0 or 7 to 15 are allowed");
-            return Some((2, why));
-        }
-        if jumps > MOST_JUMPS {
-            let why = format!("{jumps} jump entries, and at most {MOST_JUMPS} are allowed");
-            return Some((4, why));
-        }
-        if let Some(others) = self.packing().and_then(|it| it.other_widths(width)) {
-            return Some((5, format!("width {width}, and {others}")));
-        }
-        if self.in_runs() && self.least != 0 {
-            let smallest = self.smallest();
-            let why = format!(
-                "smallest value {smallest}, and in edition 3 it is 0: its runs have their own"
-            );
-            return Some((6, why));
-        }
-        let why = "divisor 0, and it must be at least 1".to_string();
-        (self.divisor == 0).then_some((7, why))
-    }
-
-    fn broken_size(&self) -> Option<(usize, String)> {
-        let (count, jumps, width) = (self.count, self.jump_count, self.width);
-        let (id_bytes, value_bytes) = (self.id_bytes, self.value_bytes);
-        let needed = END + 8 * u128::from(jumps);
-        if u128::from(id_bytes) < needed {
-            let why = format!(
-                "an id section of {id_bytes} bytes, and {jumps} jump entries need at least {needed}"
-            );
-            return Some((3, why));
-        }
-        if self.in_runs() {
-            let (runs, needed) = (runs::count_of(count), runs::directory_bytes(count));
-            let why = format!(
-                "a value section of {value_bytes} bytes, and the directory of {} takes {needed}",
-                counted(runs, "run")
-            );
-            return (value_bytes < needed).then_some((8, why));
-        }
-        let needed = (u128::from(count) * u128::from(width)).div_ceil(8);
-        let why = format!(
-            "a value section of {value_bytes} bytes, and {count} pairs of {width} bits take {needed}"
-        );
-        (u128::from(value_bytes) != needed).then_some((8, why))
-    }
 }
 
 /// The smallest value that a header number stands for.
 pub fn smallest(least: u64) -> i64 {
     (least >> 1) as i64 ^ -((least & 1) as i64)
+}
+
+/// The header number of a smallest value.
+pub fn least(smallest: i64) -> u64 {
+    (smallest << 1 ^ smallest >> 63) as u64
+}
+
+/// The bytes that a number takes in a header.
+pub fn number_bytes(number: u64) -> usize {
+    (number.max(1).ilog2() / 7 + 1) as usize
 }
 
 /// The number at the front, in groups of seven bits, and its bytes; if it is whole, in its shortest
@@ -216,44 +156,25 @@ mod tests {
     use super::*;
 
     #[test]
-    fn a_header_and_its_rules() {
+    fn a_header() {
         let column =
             signalfern::write_to_vec(&[0, 2, 7], &[150, 140, 135], Edition::Plain, 9).unwrap();
         let header = Header::parse(&column).unwrap();
         assert_eq!(header.numbers(), [1, 3, 9, 16, 0, 2, 270, 5, 1]);
         assert_eq!((header.len(), header.total()), (10, 27));
-        assert_eq!((header.smallest(), header.broken_rule()), (135, None));
-        let mut wrong = header.clone();
-        wrong.width = 3;
-        let (index, sentence) = wrong.broken_rule().unwrap();
-        assert_eq!(index, 8);
-        assert!(sentence.contains("3 pairs of 3 bits take 2"), "{sentence}");
-        // Edition 2 has no width of 3 bits.
-        wrong.edition = 2;
-        let (index, sentence) = wrong.broken_rule().unwrap();
-        assert_eq!(index, 5);
-        assert!(
-            sentence.starts_with("width 3, and edition 2 has 0, 1, 2, 4, 8, "),
-            "{sentence}"
-        );
-        // Edition 3 has neither a width nor a smallest value here, and a directory.
-        for (width, least, index, words) in [
-            (3, 270, 5, "width 3, and in edition 3 it is 0"),
-            (0, 270, 6, "smallest value 135, and in edition 3 it is 0"),
-            (
-                0,
-                0,
-                8,
-                "a value section of 1 bytes, and the directory of 1 run takes 25",
-            ),
-        ] {
-            (wrong.edition, wrong.width, wrong.least) = (3, width, least);
-            let (found, sentence) = wrong.broken_rule().unwrap();
-            assert_eq!(found, index);
-            assert!(sentence.contains(words), "{sentence}");
+        assert_eq!(header.smallest(), 135);
+    }
+
+    #[test]
+    fn numbers_there_and_back() {
+        for value in [0, -1, 1, 135, i64::MAX, i64::MIN] {
+            assert_eq!(smallest(least(value)), value);
         }
-        wrong.value_bytes = 25;
-        assert_eq!(wrong.broken_rule(), None);
+        for (value, bytes) in [(0, 1), (1, 1), (127, 1), (128, 2), (16_383, 2), (16_384, 3)] {
+            assert_eq!(number_bytes(value), bytes);
+        }
+        assert_eq!(number_bytes(u64::MAX >> 1), 9);
+        assert_eq!(number_bytes(u64::MAX), 10);
     }
 
     #[test]

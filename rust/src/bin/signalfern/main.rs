@@ -3,14 +3,17 @@
 //! `table` holds the commands and options (`command`); the parser (`arguments`), `help`, `man` and `completions`
 //! are made from it. A command has a module of its own name. Below them: `input`, `lines`, `pairs` and
 //! `load` read; `output`, `temporary`, `printing` and `range` write; `column` is the one place that
-//! uses the package's opened column; `header`, `blocks`, `packing` and `runs` take bytes apart for `show`,
-//! `audit` and `diagnosis`, which explain a file and never judge it; all `unsafe` is in `system`.
+//! uses the package's opened column; `header` and its `rules`, `blocks`, `packing`, `runs` and `codes` take
+//! bytes apart for `show`, `audit` and `diagnosis`, which explain a file and never judge it; all `unsafe` is
+//! in `system`.
 
 mod arguments;
 mod audit;
+mod best;
 mod blocks;
 mod causes;
 mod check;
+mod codes;
 mod column;
 mod command;
 mod completions;
@@ -37,6 +40,7 @@ mod printing;
 mod progress;
 mod range;
 mod read;
+mod rules;
 mod runs;
 mod set;
 mod sha256;

@@ -11,6 +11,8 @@ pub enum Packing {
     LowFirst,
     /// Edition 3: runs with a width each, high bit first. The header has none.
     Runs,
+    /// Edition 4: codes, which are places in a table of values, high bit first.
+    Table,
 }
 
 /// The greatest width of edition 1.
@@ -25,6 +27,7 @@ impl Packing {
             1 => Some(Self::HighFirst),
             2 => Some(Self::LowFirst),
             3 => Some(Self::Runs),
+            4 => Some(Self::Table),
             _ => None,
         }
     }
@@ -35,10 +38,11 @@ impl Packing {
             Self::HighFirst => "values in any width, high bit first",
             Self::LowFirst => "values as Lucene 9 packs them, low bit first",
             Self::Runs => "values in runs of 16384 with a width each, high bit first",
+            Self::Table => "codes into a table of the distinct values, high bit first",
         }
     }
 
-    /// Which widths a header may have, if not this one.
+    /// Which widths a header may have, if not this one. In edition 4 the table says so.
     pub fn other_widths(self, width: u64) -> Option<String> {
         match self {
             Self::HighFirst if width > MOST => Some(format!("at most {MOST} bits are allowed")),
@@ -68,8 +72,8 @@ impl Packing {
     /// The weight of bit j of a section in its byte, as a power of two.
     fn weight(self, j: usize) -> usize {
         match self {
-            Self::HighFirst | Self::Runs => 7 - j % 8,
             Self::LowFirst => j % 8,
+            _ => 7 - j % 8,
         }
     }
 
@@ -77,8 +81,8 @@ impl Packing {
     pub fn number(self, section: &[u8], bits: Range<usize>) -> u64 {
         let bit = |j: usize| u64::from(section[j / 8] >> self.weight(j) & 1);
         match self {
-            Self::HighFirst | Self::Runs => bits.fold(0, |number, j| number << 1 | bit(j)),
             Self::LowFirst => bits.rev().fold(0, |number, j| number << 1 | bit(j)),
+            _ => bits.fold(0, |number, j| number << 1 | bit(j)),
         }
     }
 
@@ -106,9 +110,54 @@ impl Packing {
     /// The spare bits of a last byte of which so many bits are used, 1 to 7, and which end they are at.
     pub fn spare(self, used: u32) -> (u8, &'static str) {
         match self {
-            Self::HighFirst | Self::Runs => (0xFF >> used, "low"),
             Self::LowFirst => (0xFF << used, "high"),
+            _ => (0xFF >> used, "low"),
         }
+    }
+}
+
+/// The stored numbers, one after another.
+pub struct Stored<'a> {
+    bytes: std::slice::Iter<'a, u8>,
+    packing: Packing,
+    width: u32,
+    /// Bits that were read and not yet used: the lowest of `bits`.
+    bits: u128,
+    left: u32,
+}
+
+impl<'a> Stored<'a> {
+    pub fn new(section: &'a [u8], packing: Packing, width: u32) -> Self {
+        Self {
+            bytes: section.iter(),
+            packing,
+            width,
+            bits: 0,
+            left: 0,
+        }
+    }
+
+    pub fn next(&mut self) -> Option<u64> {
+        if self.width == 0 {
+            return Some(0);
+        }
+        while self.left < self.width {
+            let byte = u128::from(*self.bytes.next()?);
+            self.bits = match self.packing {
+                Packing::LowFirst => self.bits | byte << self.left,
+                _ => self.bits << 8 | byte,
+            };
+            self.left += 8;
+        }
+        self.left -= self.width;
+        // The number is at the high end of the bits, or at the low one.
+        let (number, rest) = match self.packing {
+            Packing::LowFirst => (self.bits, self.bits >> self.width),
+            _ => (self.bits >> self.left, self.bits & ((1 << self.left) - 1)),
+        };
+        self.bits = rest;
+        let unused = 64 - self.width;
+        Some((number as u64) << unused >> unused)
     }
 }
 
@@ -123,9 +172,13 @@ mod tests {
             (Packing::HighFirst, [0x54, 0xA0], "[10]100000"),
             (Packing::LowFirst, [0x15, 0x0A], "000010[10]"),
             (Packing::Runs, [0x54, 0xA0], "[10]100000"),
+            (Packing::Table, [0x54, 0xA0], "[10]100000"),
         ] {
             let number = |i: usize| packing.number(&section, 2 * i..2 * i + 2);
             assert!((0..8).map(number).eq([1, 1, 1, 0, 2, 2, 0, 0]));
+            let mut stored = Stored::new(&section, packing, 2);
+            let stored: Vec<u64> = std::iter::from_fn(|| stored.next()).collect();
+            assert_eq!(stored, [1, 1, 1, 0, 2, 2, 0, 0]);
             assert_eq!(packing.marked(&section, 1, &(8..10)), marked);
             assert_eq!(packing.marked(&section, 1, &(0..2)).len(), 8);
             assert_eq!(packing.marked(&section, 1, &(6..20)).len(), 10);
@@ -148,6 +201,7 @@ mod tests {
         let widths = (0..100).filter(|&width| Packing::Runs.other_widths(width).is_none());
         assert!(widths.eq([0]));
         assert_eq!(Packing::Runs.least_width(5), 3);
+        assert_eq!(Packing::Table.least_width(255), 8);
         assert_eq!(Packing::HighFirst.spare(3), (0x1F, "low"));
         assert_eq!(Packing::LowFirst.spare(3), (0xF8, "high"));
     }

@@ -72,7 +72,7 @@ fn write(mut arguments: Arguments) -> Result<(), Failure> {
     );
     let to_standard = output.is_standard();
     output.fill(|out| out.write_all(&set))?;
-    report(&path, &about, &digest(&set), to_standard)
+    report(&path, "", &about, &digest(&set), to_standard)
 }
 
 impl Ids {

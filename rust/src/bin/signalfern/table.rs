@@ -15,7 +15,7 @@ stands for standard output.";
 
 pub const STATUS: &str = "Exit status: 0 done; 1 the input is refused (the refusal's number, name \
 and meaning stand on standard error, and nothing is written); 2 the command line is wrong or a file \
-cannot be used. Refusals 1 to 16 are the library's (5 is not used), those from 101 the tool's.";
+cannot be used. Refusals 1 to 17 are the library's (5 is not used), those from 101 the tool's.";
 
 /// What "sound" means, wherever the word is used.
 pub const SOUND: &str = "Sound means: the bytes are the column of one list of pairs, to the last \
@@ -29,7 +29,7 @@ pub static COMMANDS: &[Command] = &[
 
 const WRITE: Command = Command {
     name: "write",
-    words: "[FILE] -o COLUMN [-p P] [--edition E] [--sidecar] [--force]",
+    words: "[FILE] -o COLUMN [-p P] [--edition E | --best] [--sidecar] [--force]",
     summary: "make a column of lines `ID VALUE`",
     text: &[
         "Makes a column of the lines of FILE, or of standard input. Each line is `ID VALUE`; ids \
@@ -59,11 +59,18 @@ const WRITE: Command = Command {
         option(
             Some('e'),
             "edition",
-            ("E", Value::OneOf(&["1", "2", "3"])),
+            ("E", Value::OneOf(&["1", "2", "3", "4"])),
             "how values are stored: 1 in the least width, high bit first; 2 as Lucene 9 packs them, low \
              bit first, in one of its widths; 3 as 1, but in runs of 16384 values with a width each, and \
-             with a directory of them, by which `find` searches. The default is 1. Every command reads \
-             them all, but `find` takes 3 alone",
+             with a directory of them, by which `find` searches; 4 by a table of the distinct values, 2 to \
+             256 of them, and a code for each pair, or as 1 where no table makes the column shorter. The \
+             default is 1. Every command reads them all, but `find` takes 3 alone",
+        ),
+        flag(
+            Some('b'),
+            "best",
+            "in the edition with the fewest bytes, of several the first; what each of them would take is \
+             told",
         ),
         flag(
             None,
@@ -256,8 +263,9 @@ const SHOW: Command = Command {
     summary: "what is in it, and where the bytes go",
     text: &[
         "Shows the header, the blocks of ids with their kind and count (neighbours of one kind \
-         together), of a column of edition 3 the runs of values, and where the bytes go. Of a damaged \
-         column it shows what can be made out, and says that it is damaged.",
+         together), of a column of edition 3 the runs of values, of one of edition 4 its table with how \
+         often each value comes, and where the bytes go. Of a damaged column it shows what can be made \
+         out, and says that it is damaged.",
     ],
     options: &[],
     operands: Value::File,

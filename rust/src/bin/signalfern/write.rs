@@ -5,7 +5,9 @@ use std::path::{Path, PathBuf};
 use signalfern::{power_allowed, Edition, Refusal};
 
 use crate::arguments::Arguments;
+use crate::best::Sizes;
 use crate::failure::{complain, say, Failure};
+use crate::header::Header;
 use crate::input::Input;
 use crate::memory;
 use crate::output::{print, Output};
@@ -18,7 +20,7 @@ use crate::text::{counted, hex, is_standard, named};
 const DEFAULT_POWER: u32 = 9;
 
 /// What `--edition` takes.
-const EDITIONS: &str = "edition: 1, 2 or 3";
+const EDITIONS: &str = "edition: 1, 2, 3 or 4";
 
 pub fn run(mut arguments: Arguments) -> Result<(), Failure> {
     let rule = "rank power: 0, or 7 to 15";
@@ -26,11 +28,7 @@ pub fn run(mut arguments: Arguments) -> Result<(), Failure> {
     if !power_allowed(power) {
         return Err(arguments.usage(format!("`{power}` is no {rule}")));
     }
-    let edition = match arguments.number("edition", EDITIONS)? {
-        None => Edition::default(),
-        Some(number) => Edition::from_number(number)
-            .ok_or_else(|| arguments.usage(format!("`{number}` is no {EDITIONS}")))?,
-    };
+    let told = edition_told(&arguments)?;
     let (force, sidecar) = (arguments.has("force"), arguments.has("sidecar"));
     let Some(path) = arguments.path("output") else {
         return Err(arguments.usage("no output is named: -o COLUMN"));
@@ -49,6 +47,14 @@ pub fn run(mut arguments: Arguments) -> Result<(), Failure> {
     };
     let name = input.name();
     let pairs = pairs_for(input, &output, force, &path)?;
+    let (edition, sizes) = match told {
+        Some(edition) => (edition, String::new()),
+        None => {
+            let refused = |refusal| pairs.passed_over.refused(&pairs.ids, &name, refusal);
+            let sizes = Sizes::of(&pairs, power).map_err(refused)?;
+            (sizes.best(), sizes.lines())
+        }
+    };
     let column = column_of(&pairs, edition, power, &name)?;
     let count = counted(pairs.ids.len() as u64, "pair");
     // From here on the column alone is needed.
@@ -61,8 +67,34 @@ pub fn run(mut arguments: Arguments) -> Result<(), Failure> {
     } else {
         warn_of_old_sidecar(&path, &digest);
     }
-    let about = format!("{count} in {} bytes", column.len());
-    report(&path, &about, &digest, to_standard)
+    let about = format!("{count} in {} bytes{}", column.len(), remark(told, &column));
+    report(&path, &sizes, &about, &digest, to_standard)
+}
+
+/// The edition that is told; none where it is the one with the fewest bytes.
+fn edition_told(arguments: &Arguments) -> Result<Option<Edition>, Failure> {
+    let told = arguments.number("edition", EDITIONS)?;
+    match (told, arguments.has("best")) {
+        (None, true) => Ok(None),
+        (None, false) => Ok(Some(Edition::default())),
+        (Some(_), true) => Err(arguments.usage("--best chooses the edition: leave --edition out")),
+        (Some(number), false) => match Edition::from_number(number) {
+            Some(edition) => Ok(Some(edition)),
+            None => Err(arguments.usage(format!("`{number}` is no {EDITIONS}"))),
+        },
+    }
+}
+
+/// What is said of the edition that was written, where it is not just the one that was told.
+fn remark(told: Option<Edition>, column: &[u8]) -> String {
+    let written = Header::parse(column).map_or(0, |header| header.edition);
+    match told {
+        None => format!(" of edition {written}"),
+        Some(told) if u64::from(told.number()) != written => {
+            format!(" of edition {written}, since no table makes it shorter")
+        }
+        Some(_) => String::new(),
+    }
 }
 
 /// The pairs of the input.
@@ -100,14 +132,20 @@ fn column_of(pairs: &Pairs, edition: Edition, power: u32, name: &str) -> Result<
     Ok(column)
 }
 
-/// Tells what was written, where the output itself is not read.
-pub fn report(path: &Path, about: &str, digest: &Digest, to_standard: bool) -> Result<(), Failure> {
+/// Tells what was written, after some lines, where the output itself is not read.
+pub fn report(
+    path: &Path,
+    before: &str,
+    about: &str,
+    digest: &Digest,
+    to_standard: bool,
+) -> Result<(), Failure> {
     let name = if to_standard {
         "standard output".to_string()
     } else {
         named(path)
     };
-    let line = format!("{name}: {about}, SHA-256 {}\n", hex(digest));
+    let line = format!("{before}{name}: {about}, SHA-256 {}\n", hex(digest));
     if to_standard {
         say(&line);
         return Ok(());

@@ -2,6 +2,7 @@
 //! here only explains its verdict, on any bytes, in time that grows with the bytes alone.
 
 mod broken;
+mod codes;
 mod damage;
 mod dense;
 mod entries;

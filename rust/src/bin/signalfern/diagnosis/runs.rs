@@ -1,9 +1,9 @@
 //! The value section of a damaged column of edition 3: run by run.
 
-use super::values::{common_divisor, in_header, Stored};
+use super::values::{common_divisor, in_header};
 use super::Finding;
 use crate::header::Header;
-use crate::packing::Packing;
+use crate::packing::{Packing, Stored};
 use crate::runs::{directory_bytes, Run, GREATEST, SMALLEST, START, WIDTH};
 use crate::text::counted;
 

@@ -24,7 +24,7 @@ pub fn no_edition(bytes: &[u8]) -> Diagnosis {
             let start = &bytes[..bytes.len().min(8)];
             let bytes: Vec<String> = start.iter().map(|byte| format!("{byte:02X}")).collect();
             let line = format!(
-                "it starts with the bytes {}, and a column starts with 01, 02 or 03",
+                "it starts with the bytes {}, and a column starts with 01, 02, 03 or 04",
                 bytes.join(" ")
             );
             Diagnosis::new(vec![line], "see whether this is the right file")

@@ -24,12 +24,22 @@ fn columns() -> Vec<Vec<u8>> {
         [some.clone(), in_block(2, &dense), in_block(3, &dense)].concat(),
     ];
     let mut columns = Vec::new();
-    for edition in [Edition::Plain, Edition::Lucene, Edition::Runs] {
+    for edition in [
+        Edition::Plain,
+        Edition::Lucene,
+        Edition::Runs,
+        Edition::Table,
+    ] {
         for (ids, step) in lists.iter().zip([1, 5, 3, 1, 1, 1000]) {
             for power in [0, 7, 9, 15] {
-                let values: Vec<i64> = (ids.iter())
+                let mut values: Vec<i64> = (ids.iter())
                     .map(|id| step * i64::from(id * 31 % 97))
                     .collect();
+                if edition == Edition::Table {
+                    // Few that lie far apart.
+                    let few = [i64::MIN, -step, 0, step, 1 << 50];
+                    (values.iter_mut()).for_each(|value| *value = few[(*value % 5) as usize]);
+                }
                 columns.push(signalfern::write_to_vec(ids, &values, edition, power).unwrap());
             }
             let equal = vec![-5; ids.len()];

@@ -1,8 +1,8 @@
 //! The value section of a damaged column.
 
-use super::{runs, Finding};
+use super::{codes, runs, Finding};
 use crate::header::{Header, NAMES};
-use crate::packing::Packing;
+use crate::packing::{Packing, Stored};
 
 /// What the stored numbers are, taken together.
 #[derive(Default)]
@@ -25,8 +25,10 @@ pub fn find(header: &Header, bytes: &[u8]) -> Option<Finding> {
     let in_header = |index: usize, why: String| Some(in_header(header, index, why));
     let (smallest, divisor, width) = (header.smallest(), header.divisor, header.width);
     let packing = header.packing()?;
-    if packing == Packing::Runs {
-        return runs::find(header, bytes);
+    match packing {
+        Packing::Runs => return runs::find(header, bytes),
+        Packing::Table => return codes::find(header, bytes),
+        Packing::HighFirst | Packing::LowFirst => {}
     }
     if header.count == 0 && header.least != 0 {
         return in_header(6, format!("{smallest}, and without pairs it is 0"));
@@ -110,7 +112,12 @@ fn multiples(header: &Header, start: usize, common: u64) -> Finding {
 }
 
 /// The bits after the last value.
-fn spare_bits(header: &Header, packing: Packing, section: &[u8], start: usize) -> Option<Finding> {
+pub fn spare_bits(
+    header: &Header,
+    packing: Packing,
+    section: &[u8],
+    start: usize,
+) -> Option<Finding> {
     let used = (u128::from(header.count) * u128::from(header.width) % 8) as u32;
     let last = *section.last()?;
     let (spare, end) = packing.spare(used);
@@ -119,51 +126,4 @@ fn spare_bits(header: &Header, packing: Packing, section: &[u8], start: usize) -
         part: "spare bits after the last value".to_string(),
         why: format!("{last:02X}, and its {} {end} bits must be 0", 8 - used),
     })
-}
-
-/// The stored numbers, one after another.
-pub struct Stored<'a> {
-    bytes: std::slice::Iter<'a, u8>,
-    packing: Packing,
-    width: u32,
-    /// Bits that were read and not yet used: the lowest of `bits`.
-    bits: u128,
-    left: u32,
-}
-
-impl<'a> Stored<'a> {
-    pub fn new(section: &'a [u8], packing: Packing, width: u32) -> Self {
-        Self {
-            bytes: section.iter(),
-            packing,
-            width,
-            bits: 0,
-            left: 0,
-        }
-    }
-
-    pub fn next(&mut self) -> Option<u64> {
-        if self.width == 0 {
-            return Some(0);
-        }
-        while self.left < self.width {
-            let byte = u128::from(*self.bytes.next()?);
-            self.bits = match self.packing {
-                Packing::HighFirst | Packing::Runs => self.bits << 8 | byte,
-                Packing::LowFirst => self.bits | byte << self.left,
-            };
-            self.left += 8;
-        }
-        self.left -= self.width;
-        // The number is at the high end of the bits, or at the low one.
-        let (number, rest) = match self.packing {
-            Packing::HighFirst | Packing::Runs => {
-                (self.bits >> self.left, self.bits & ((1 << self.left) - 1))
-            }
-            Packing::LowFirst => (self.bits, self.bits >> self.width),
-        };
-        self.bits = rest;
-        let unused = 64 - self.width;
-        Some((number as u64) << unused >> unused)
-    }
 }

@@ -1,0 +1,159 @@
+// Plans (document 02, [12]): the small check of one, and the planner, which nobody need trust.
+ghost use mathlib.Core.Path.{_≡_};
+ghost use mathlib.Core.Bool.{true, false};
+ghost use mathlib.Core.List.{_++_, map};
+ghost use Prim.Native.Nat.{_+_, _*_, _≤_};
+ghost use lib.ListN.{length, drop};
+ghost use Rattle.format.specs.Limits.{maxCount};
+ghost use Rattle.format.specs.Pairs.{Each, Fits};
+ghost use Rattle.format.specs.Table.{codeIn, ascends, allIn, valueShare};
+ghost use Rattle.format.specs.Plan.{planOk, planned, plan};
+ghost use Rattle.format.specs.Writer.{writeReply, writeOut};
+ghost use Rattle.format.specs.Replies.{fieldsOf, replyOf};
+ghost use Rattle.tables.specs.Marks.{marked};
+ghost use Rattle.plans.specs.Saves.{saves};
+use format::Fields;
+use format::Refusal;
+use format::Reply;
+use packings::Order;
+
+// The most entries of a table.
+pub const MOST: usize = 256;
+
+// The most values of a column.
+const VALUES: usize = 2147352576;
+
+// ---- whether a table saves bytes
+
+// The bytes of a column that its values decide.
+fn share(fields: Fields, v: u64) -> u64
+    requires { ⌜ v ≤ 2048 + 8 * maxCount ⌝ }
+    ensures { λ r. ⌜ r ≡ valueShare (fieldsOf fields) v ⌝ }
+{
+    let w = header_numbers::number_len(fields.width);
+    let s = header_numbers::number_len(fields.smallest);
+    let g = header_numbers::number_len(fields.divisor);
+    let l = header_numbers::number_len(v);
+    numbers::long(w + s + g + l) + v
+}
+
+// Whether the column of n values that are those of the table is shorter with the table than in edition 1.
+pub fn saves(table: &[i64], n: u64) -> bool
+    requires { ⌜ (1 ≤ length (now table)) × (length (now table) ≤ 256) × (n ≤ maxCount) ⌝ }
+    ensures { λ r. ⌜ (r ≡ saves (now (table .entry)) n) × Each Fits (now (table .entry)) ⌝ }
+{
+    let t = numbers::long(table.len());
+    let own = share(table_values::fields_of(t), table_values::bytes_of(t, n));
+    let plain = scaled_values::plan(Order::High, table);
+    let v = packing::packed_bytes(n, plain.width);
+    own < share(plain, v)
+}
+
+// ---- the small check
+
+// Sets a mark at each value's place. Whether each value is there.
+fn mark(marks: &mut [u8], table: &[i64], values: &[i64]) -> bool
+    requires { ⌜ (ascends (now table) ≡ true) × (length (now table) ≤ length (now marks)) ⌝ }
+    ensures { λ r. ⌜ (r ≡ allIn (now (table .entry)) (now (values .entry)))
+        × (r ≡ true → now (marks .exit) ≡ marked (now (marks .entry)) (map (codeIn (now (table .entry))) (now (values .entry)))) ⌝ }
+{
+    let mut i = 0;
+    while i < values.len() {
+        let b = signed::biased(values[i]);
+        let k = tables::place(table, b);
+        if !tables::has(table, k, b) {
+            return false;
+        }
+        marks[k] = 1;
+        i += 1;
+    }
+    true
+}
+
+// Whether the entries, which ascend, are the values, and no other.
+fn same_members(table: &[i64], values: &[i64]) -> bool
+    requires { ⌜ (ascends (now table) ≡ true) × (length (now table) ≤ 256) ⌝ }
+    ensures { λ r. ⌜ (r ≡ true → (allIn (now (table .entry)) (now (values .entry)) ≡ true) × (allIn (now (values .entry)) (now (table .entry)) ≡ true))
+        × (r ≡ false → allIn (now (table .entry)) (now (values .entry)) ≡ true → allIn (now (values .entry)) (now (table .entry)) ≡ false) ⌝ }
+{
+    let mut marks = [0u8; 256];
+    if !mark(&mut marks, table, values) {
+        return false;
+    }
+    tables::all_marked(&marks, table.len())
+}
+
+// Plain, which is no entry at all, always; a table of 2 to 256 entries, strictly ascending, that holds every value, has no unused entry and
+// makes the column shorter than edition 1's.
+pub fn accepts(table: &[i64], values: &[i64]) -> bool
+    requires { ⌜ length (now values) ≤ maxCount ⌝ }
+    ensures { λ r. ⌜ (r ≡ planOk (now (table .entry)) (now (values .entry))) × (r ≡ true → Each Fits (now (table .entry))) ⌝ }
+{
+    let t = table.len();
+    if t == 0 {
+        return true;
+    }
+    if t < 2 {
+        return false;
+    }
+    if t > MOST {
+        return false;
+    }
+    if !tables::ascending(table) {
+        return false;
+    }
+    if !same_members(table, values) {
+        return false;
+    }
+    saves(table, numbers::long(values.len()))
+}
+
+// ---- the planner
+
+// Stores the entries from the buffer's front on.
+fn copy(out: &mut [i64], table: &[i64])
+    requires { ⌜ length (now table) ≤ length (now out) ⌝ }
+    ensures { λ _. ⌜ now (out .exit) ≡ now (table .entry) ++ drop (length (now (table .entry))) (now (out .entry)) ⌝ }
+{
+    let mut i = 0;
+    while i < table.len() {
+        let v = table[i];
+        out[i] = v;
+        i += 1;
+    }
+}
+
+// The plan for the values: a table wherever the small check takes one, else plain, which is no entry. How many entries.
+pub fn plan(out: &mut [i64], values: &[i64]) -> usize
+    requires { ⌜ 256 ≤ length (now out) ⌝ }
+    ensures { λ r. ⌜ (r ≡ length (planned (now (values .entry)))) × (r ≤ 256) × Each Fits (planned (now (values .entry)))
+        × (now (out .exit) ≡ planned (now (values .entry)) ++ drop (length (planned (now (values .entry)))) (now (out .entry))) ⌝ }
+{
+    if values.len() > VALUES {
+        return 0;
+    }
+    let mut table = [0i64; 256];
+    let t = tables::distinct(&mut table, values);
+    if t < 2 {
+        return 0;
+    }
+    if t > MOST {
+        return 0;
+    }
+    if !saves(&table[..t], numbers::long(values.len())) {
+        return 0;
+    }
+    copy(out, &table[..t]);
+    t
+}
+
+// The same into a lent table of any length: 12 with 256 where it has fewer places than a table may have entries.
+pub fn propose(out: &mut [i64], values: &[i64]) -> Reply
+    ensures replies { λ r. ⌜ replyOf r ≡ writeReply (plan (now (values .entry)) (length (now (out .entry)))) ⌝ }
+    ensures proposed { λ _. ⌜ now (out .exit) ≡ writeOut (plan (now (values .entry)) (length (now (out .entry)))) (now (out .entry)) ⌝ }
+{
+    if out.len() < MOST {
+        return Reply::Refused(Refusal::Buffer(256));
+    }
+    Reply::Done(numbers::long(plan(out, values)))
+}

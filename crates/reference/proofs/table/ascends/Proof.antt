@@ -1,0 +1,17 @@
+-- `reference::table::ascends` is safe and ends.
+use Prim.Native.Nat.{_-_}
+use borrow.Author.Needs.{needs}
+use Rattle.reference.proofs.table.ascends.Statement.{statement}
+use Rattle.reference.proofs.table.ascends.Tie as tie
+
+abbrev Inv-loop : tie.InvT-loop
+Inv-loop table k₀ k-end k = Unit {0}
+
+abbrev μ-loop : tie.MeasureT-loop
+μ-loop table k₀ k-end k = k-end - k
+
+pub ascends-spec : {M : Type 1} → statement M
+ascends-spec =
+    tie.close (tie.spec Inv-loop μ-loop
+    (λ c κs. search needs) (λ c. search needs) (λ c κs. search needs) (λ c κs. search needs) (λ c κs. search needs) (λ c. search needs)
+    (λ c. search needs) (λ c. search needs) (λ c. search needs) (λ c. search needs))

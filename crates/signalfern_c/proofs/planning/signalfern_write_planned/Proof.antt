@@ -1,0 +1,11 @@
+-- `signalfern_c::planning::signalfern_write_planned` meets its contract. Assumes nothing.
+use Rattle.format.specs.Kit.{needs, ap, _∙_}
+use Rattle.signalfern_c.specs.Boundary.{replyC}
+use Rattle.signalfern_c.proofs.planning.signalfern_write_planned.Statement.{statement}
+use Rattle.signalfern_c.proofs.planning.signalfern_write_planned.Tie as tie
+
+returns : tie.Need-returns
+returns c = let w = c .before .before .before .write-planned in (c .reply-c .ensures ∙ ap replyC (w .ensures .0), w .ensures .1)
+
+pub signalfern-write-planned-spec : {M : Type 1} → statement M
+signalfern-write-planned-spec = tie.close (tie.spec (λ c κs. search needs) (λ c κs. search needs) (λ c. search needs) returns)

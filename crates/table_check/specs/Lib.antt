@@ -1,0 +1,2 @@
+-- The tests of a value section of edition 4.
+pub mod ValuesOk

@@ -1,0 +1,2 @@
+-- Where a code stands.
+pub mod Codes
