@@ -62,7 +62,7 @@ const EDITION: u64 = 9;
 
 pub const HEADER: u64 = 10;
 
-const LENGTH: u64 = 11;
+pub const LENGTH: u64 = 11;
 
 pub const DAMAGED: u64 = 13;
 

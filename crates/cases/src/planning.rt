@@ -7,6 +7,7 @@ use super::directory;
 use super::directory::BROKEN;
 use super::directory::DAMAGED;
 use super::directory::HEADER;
+use super::directory::LENGTH;
 use super::directory::Look;
 use super::directory::found;
 use super::directory::refused;
@@ -224,11 +225,41 @@ fn damage() -> Tally {
         DAMAGED,
         found(2, LOWEST),
     ));
-    let t = t.and(no_header(b"T 1: HEADER", 7, 1));
-    let t = t.and(no_header(b"T 4: HEADER", 7, 4));
+    let t = t.and(no_header(b"T 4, with w and V of 3: HEADER", 7, 4));
     let t = t.and(no_header(b"width 3: HEADER", 5, 3));
     let t = t.and(no_header(b"smallest 1: HEADER", 6, 1));
     t.and(no_header(b"V 26: HEADER", 8, 26))
+}
+
+// A header alone, whose w and V are those of its T: one that may be, has too few bytes after it.
+fn header(name: &[u8], bytes: &[u8], number: u64) -> Tally {
+    let right = directory::checked(bytes, number);
+    let found = directory::looked(bytes, refused(7, number));
+    say::case(name, right && found)
+}
+
+// Of 3 values: T 1, w 0, V 8; T 2, w 1, V 17; T 256, w 8, V 2051; T 257, w 9, V 2060.
+fn headers() -> Tally {
+    let t = header(
+        b"T 1: HEADER",
+        b"\x04\x03\x09\x10\x00\x00\x00\x01\x08",
+        HEADER,
+    );
+    let t = t.and(header(
+        b"T 2: LENGTH",
+        b"\x04\x03\x09\x10\x00\x01\x00\x02\x11",
+        LENGTH,
+    ));
+    let t = t.and(header(
+        b"T 256: LENGTH",
+        b"\x04\x03\x09\x10\x00\x08\x00\x80\x02\x83\x10",
+        LENGTH,
+    ));
+    t.and(header(
+        b"T 257: HEADER",
+        b"\x04\x03\x09\x10\x00\x09\x00\x81\x02\x8C\x10",
+        HEADER,
+    ))
 }
 
 pub fn lines() -> Tally {
@@ -238,4 +269,5 @@ pub fn lines() -> Tally {
         .and(order())
         .and(lengths())
         .and(damage())
+        .and(headers())
 }

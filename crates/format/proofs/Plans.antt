@@ -135,7 +135,8 @@ unfolding chosen planOk planEdition
 chosen-takes ed vs = true-or (codec ed .takes vs) (λ e. rw e e) (λ e. rw e (plan-takes [] vs refl))
 
 -- a plan that the small check takes is written as its edition says; any other is refused with PLAN, where nothing before it is refused
-pub planned-write : (p : ℕ) (ids : List ℕ) (vs us : List ℤ) (room : ℕ) → planOk us vs ≡ true → writePlanned p ids vs us room ≡ writeAs (planEdition us) p ids vs room
+pub planned-write : (p : ℕ) (ids : List ℕ) (vs us : List ℤ) (room : ℕ) → planOk us vs ≡ true → writePlanned p ids vs us room ≡ writeAs (planEdition us) p ids
+    vs room
 unfolding writePlanned writeAs
 planned-write p ids vs us room e = rw (e, plan-takes us vs e)
 

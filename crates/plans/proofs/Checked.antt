@@ -101,7 +101,8 @@ module _ (us vs : List ℤ) where
 -- ---- the planner
 
 -- of the values' own table only the number of its entries and the bytes are asked
-pub own-table : (vs : List ℤ) → tableOk (codec plain) (tableOf vs) vs ≡ (leb 2 (length (tableOf vs)) && leb (length (tableOf vs)) 256 && saves (tableOf vs) (length vs))
+pub own-table : (vs : List ℤ) → tableOk (codec plain) (tableOf vs) vs
+    ≡ (leb 2 (length (tableOf vs)) && leb (length (tableOf vs)) 256 && saves (tableOf vs) (length vs))
 unfolding tableOk saves
 own-table vs =
     let a : allIn (tableOf vs) vs ≡ true = each-all (tableOf vs) vs (table-has vs) in

@@ -6,7 +6,8 @@ use Rattle.format.specs.Bytes.{bytesOf}
 use Rattle.format.specs.Values.{smallest, over, divisor}
 use Rattle.format.specs.Pairs.{Below, Each, Fits}
 use Rattle.format.specs.Codec.{Fields}
-use Rattle.format.specs.ValueRuns.{runLength, runCount, directoryLength, runsIn, runsOf, Summary, summaryAt, summaryOf, summaries, summaryBytes, runSection, inRuns}
+use Rattle.format.specs.ValueRuns.{runLength, runCount, directoryLength, runsIn, runsOf, Summary, summaryAt, summaryOf, summaries, summaryBytes, runSection}
+use Rattle.format.specs.ValueRuns.{inRuns}
 use Rattle.format.specs.Editions.{runs, codec}
 use Rattle.format.proofs.Digits.{below-drop}
 use Rattle.format.proofs.Values.{divides-each}

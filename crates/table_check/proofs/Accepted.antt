@@ -48,13 +48,16 @@ module _ (us : List ℤ) (up : ascends us ≡ true) where
   unfolding belowAll allIn
   values-in [] e = refl
   values-in (c ∷ cs) e =
-      true-both _ _ (in-at us c (pos 0) (Codes.below-at (length us) (c ∷ cs) 0 e (omega arith))) (values-in cs (both-true (ltb c (length us)) (belowAll (length us) cs) e .1))
+      true-both _ _ (in-at us c (pos 0) (Codes.below-at (length us) (c ∷ cs) 0 e (omega arith)))
+      (values-in cs (both-true (ltb c (length us)) (belowAll (length us) cs) e .1))
 
 values-fit : (us : List ℤ) (cs : List ℕ) → Each Fits us → belowAll (length us) cs ≡ true → Each Fits (valuesAt us cs)
 unfolding belowAll
 values-fit us [] fit e = tt
-values-fit us (c ∷ cs) fit e =
-    (each-at Fits us c (pos 0) fit (Codes.below-at (length us) (c ∷ cs) 0 e (omega arith)), values-fit us cs fit (both-true (ltb c (length us)) (belowAll (length us) cs) e .1))
+values-fit us (c ∷ cs) fit e = (
+  each-at Fits us c (pos 0) fit (Codes.below-at (length us) (c ∷ cs) 0 e (omega arith)),
+  values-fit us cs fit (both-true (ltb c (length us)) (belowAll (length us) cs) e .1),
+)
 
 -- ---- one section
 
@@ -209,7 +212,17 @@ module _ (us vs : List ℤ) (facts : TableFacts (codec plain) us vs) (fit : Each
   own-tests u =
       let byte : (k : ℕ) → getD (packed w xs) k 0 < 256 =
       byte-at (packed w xs) (subst (Below 256) its-codes (below-drop 256 (8 * length us) (tableSection us vs) u)) in
-      rw (its-entries, its-codes, read-codes, facts .up, its-saves, spare-zero byte, codes-below, each-used (length us) xs (used-codes us vs (facts .up) (facts .holds) (facts .used)))
+      rw (
+        its-entries,
+        its-codes,
+        read-codes,
+        facts .up,
+        its-saves,
+        spare-zero byte,
+        codes-below,
+        each-used (length us) xs
+            (used-codes us vs (facts .up) (facts .holds) (facts .used)),
+      )
 
 own-section : (n : ℕ) (f : Fields) (s : List ℕ) → Below 256 s → ValuesOf (codec table) n f s → valuesOk n f s ≡ true
 unfolding codec tabled

@@ -31,7 +31,8 @@ low-lt : (s : List ℕ) (at : ℕ) → Below 256 s → at + 8 ≤ length s → l
 unfolding lowAt
 low-lt s at u h =
     let n : length (take 8 (drop at s)) ≡ 8 = length-take-le 8 (drop at s) (omega (arith, length-drop at s)) in
-    subst (λ (k : ℕ). fromLow (take 8 (drop at s)) < 256 ^ k) n (from-lt 256 (take 8 (drop at s)) (lit< tt) (below-take 256 8 (drop at s) (below-drop 256 at s u)))
+    subst (λ (k : ℕ). fromLow (take 8 (drop at s)) < 256 ^ k) n
+    (from-lt 256 (take 8 (drop at s)) (lit< tt) (below-take 256 8 (drop at s) (below-drop 256 at s u)))
 
 pub entries-fit : (i k : ℕ) (s : List ℕ) → Below 256 s → 8 * (i + k) ≤ length s → Each Fits (entriesFrom i k s)
 unfolding entriesFrom
@@ -66,5 +67,6 @@ unfolding entriesFrom
 entries-back us rest fit i zero e = let all : length us ≤ i = omega arith in sym (drop-of-length-le us all)
 entries-back us rest fit i (suc k) e =
     let h : i < length us = omega arith in
-    ap₂ {C = List ℤ} (λ (x : ℤ) (l : List ℤ). x ∷ l) (read-entry us rest i h (each-at Fits us i (pos 0) fit h)) (entries-back us rest fit (suc i) k (omega arith))
+    ap₂ {C = List ℤ} (λ (x : ℤ) (l : List ℤ). x ∷ l) (read-entry us rest i h (each-at Fits us i (pos 0) fit h))
+    (entries-back us rest fit (suc i) k (omega arith))
     ∙ sym (drop-cons us i (pos 0) h)

@@ -9,7 +9,8 @@ use Rattle.format.proofs.Stores.{sets-front}
 use Rattle.format.proofs.Table.{length-table, length-section}
 
 -- an entry more
-pub entries-more : (us : List ℤ) (i : ℕ) → i < length us → bytesOf tableEntry (drop i us) ≡ tableEntry (getD us i (pos 0)) ++ bytesOf tableEntry (drop (i + 1) us)
+pub entries-more : (us : List ℤ) (i : ℕ) → i < length us → bytesOf tableEntry (drop i us) ≡ tableEntry (getD us i (pos 0)) ++ bytesOf tableEntry
+    (drop (i + 1) us)
 unfolding bytesOf
 entries-more us i h = rw (add-one, drop-cons us i (pos 0))
 

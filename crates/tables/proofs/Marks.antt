@@ -1,5 +1,6 @@
 -- Marks at the places of a table: all places have one exactly if each of them is among the codes. Assumes nothing.
-use Rattle.format.specs.Kit.{_≡_, refl, sym, ap, _∙_, true, List, [], _∷_, map, ℕ, zero, suc, _<_, _≤_, arith, ℤ, pos, length, getD, set, length-set, length-map, subst}
+use Rattle.format.specs.Kit.{_≡_, refl, sym, ap, _∙_, true, List, [], _∷_, map, ℕ, zero, suc, _<_, _≤_, arith, ℤ, pos, length, getD, set, length-set}
+use Rattle.format.specs.Kit.{length-map, subst}
 use Rattle.format.specs.Kit.{getD-set-same, getD-set-other, replicate, getD-replicate, length-replicate}
 use Rattle.format.specs.Table.{codeIn, ascends, allIn}
 use Rattle.format.proofs.Cases.{equal-or}

@@ -52,7 +52,8 @@ split-turn us v lo hi mid up s a b true e =
     record {
       order = omega arith;
       inside = s .inside;
-      low = λ i h. equal-or i mid (λ k. rw k e) (λ k. lt-trans (getD us i (pos 0)) (getD us mid (pos 0)) v (asc-at us i mid up (omega arith) (omega (arith, s .inside))) e);
+      low = λ i h. equal-or i mid (λ k. rw k e)
+          (λ k. lt-trans (getD us i (pos 0)) (getD us mid (pos 0)) v (asc-at us i mid up (omega arith) (omega (arith, s .inside))) e);
       high = s .high;
     }
 split-turn us v lo hi mid up s a b false e =
@@ -62,7 +63,8 @@ split-turn us v lo hi mid up s a b false e =
       low = s .low;
       high = λ i h k.
           equal-or i mid (λ l. rw l e)
-          (λ l. true-or (ltZ (getD us i (pos 0)) v) (λ t. t ∙ sym (lt-trans (getD us mid (pos 0)) (getD us i (pos 0)) v (asc-at us mid i up (omega arith) k) t) ∙ e) (λ t. t));
+          (λ l. true-or (ltZ (getD us i (pos 0)) v)
+          (λ t. t ∙ sym (lt-trans (getD us mid (pos 0)) (getD us i (pos 0)) v (asc-at us mid i up (omega arith) k) t) ∙ e) (λ t. t));
     }
 
 pub split-less : (lo hi mid : ℕ) → lo ≤ mid → mid < hi → (t : Bool) → cond t hi mid - cond t (mid + 1) lo < hi - lo

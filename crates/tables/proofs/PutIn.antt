@@ -140,7 +140,11 @@ module _ (t : List ℤ) (n k : ℕ) (v : ℤ) (fits : n ≤ length t) (at : k �
   now-there t′ l s h e =
       record {
         size = l;
-        few = λ j. (sym (one-more s), e ∙ ap (λ (x : List ℤ). x ++ (v ∷ drop k (take n t))) (sym (take-take k n t (omega (arith, most, length-take-le n t fits)))) ∙ sym (new s));
+        few = λ j. (
+          sym (one-more s),
+          e ∙ ap (λ (x : List ℤ). x ++ (v ∷ drop k (take n t)))
+              (sym (take-take k n t (omega (arith, most, length-take-le n t fits)))) ∙ sym (new s),
+        );
         many = λ j. absurd (omega (arith, one-more s));
       }
 

@@ -47,7 +47,8 @@ read c =
     let n = c .before in
     let q = n .before in
     let i = c .before .before .before .before .before .before .met .given .0 .1 .0 in
-    value-read (parted (q .before .before .before .before .before .before .before .before .before)) i (q .slot-of .result) (n .number-in .result) (c .value-of .result)
+    value-read (parted (q .before .before .before .before .before .before .before .before .before)) i (q .slot-of .result) (n .number-in .result)
+    (c .value-of .result)
     (q .slot-of .ensures) (n .number-in .ensures) (c .value-of .ensures)
 
 walk-requires : tie.Need-walk-requires

@@ -23,13 +23,16 @@ returns-3 c = (many-entries _ _ (c .before .before .if1 .left) (c .if3 .taken), 
 
 returns-4 : tie.Need-returns-4
 returns-4 c =
-    let a = c .before in
-    (not-ascending _ _ (a .before .before .before .if1 .left) (sym (a .ascending .ensures) ∙ not-true (a .ascending .result) (c .if4 .taken)), λ t. false-true t)
+    let a = c .before in (
+      not-ascending _ _ (a .before .before .before .if1 .left) (sym (a .ascending .ensures) ∙ not-true (a .ascending .result) (c .if4 .taken)),
+      λ t. false-true t,
+    )
 
 returns-5 : tie.Need-returns-5
 returns-5 c =
     let m = c .before in (
-      other-members _ _ (m .before .before .before .before .before .if1 .left) (m .same-members .ensures .1 (not-true (m .same-members .result) (c .if5 .taken))),
+      other-members _ _ (m .before .before .before .before .before .if1 .left)
+          (m .same-members .ensures .1 (not-true (m .same-members .result) (c .if5 .taken))),
       λ t. false-true t,
     )
 

@@ -32,8 +32,10 @@ returns c =
     let us = s .args .table .now in
     let v : ℤ = unbiased (b .biased .result) in
     let no-place : Stands us (codeIn us v) v → ⊥ =
-    λ x. c .before .has .ensures .1 (not-true (c .before .has .result) (c .if1 .taken)) (subst (λ (k : ℕ). Stands us k v) (sym (p .place .ensures .0)) x) in
-    (marking-stop (l .loop .inv) v (b .before .before .loop-test .taken) (value b) (s .pre .0) no-place, λ e. absurd (let z : _≡_ {A = ℕ} 0 1 = cc in omega arith))
+    λ x. c .before .has .ensures .1 (not-true (c .before .has .result) (c .if1 .taken)) (subst (λ (k : ℕ). Stands us k v) (sym (p .place .ensures .0)) x) in (
+      marking-stop (l .loop .inv) v (b .before .before .loop-test .taken) (value b) (s .pre .0) no-place,
+      λ e. absurd (let z : _≡_ {A = ℕ} 0 1 = cc in omega arith),
+    )
 
 -- the value stands at its place
 stands : (c : tie.After-has Inv-loop μ-loop) → c .has .result ≡ true → let b = c .before .before in
@@ -50,7 +52,8 @@ loop-again c =
     let b = p .before in
     let l = b .before .before .before in
     rw (p .place .ensures .0)
-    (marking-more (l .loop .inv) (unbiased (b .biased .result)) (b .before .before .loop-test .taken) (value b) (stands h (not-false (h .has .result) (c .if1 .left))))
+    (marking-more (l .loop .inv) (unbiased (b .biased .result)) (b .before .before .loop-test .taken) (value b)
+    (stands h (not-false (h .has .result) (c .if1 .left))))
 
 slice-write-marks : tie.Need-slice-write-marks Inv-loop μ-loop
 slice-write-marks c =

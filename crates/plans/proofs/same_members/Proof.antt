@@ -31,7 +31,11 @@ returns-2 c =
     let vs = s .args .values .now in
     let f = found k in
     let t : ℕ = length us in (
-      (λ e. (f .0, codes-used us vs (s .pre .0) (f .0) (marks-one 256 t (s .pre .1) (map (codeIn us) vs) (subst (λ (l : List ℕ). AllMarked l t) (f .1) (c .all-marked .ensures .0 e))))),
+      (λ e. (
+        f .0,
+        codes-used us vs (s .pre .0) (f .0)
+            (marks-one 256 t (s .pre .1) (map (codeIn us) vs) (subst (λ (l : List ℕ). AllMarked l t) (f .1) (c .all-marked .ensures .0 e))),
+      )),
       (λ e a.
           true-or (allIn vs us)
           (λ u.

@@ -22,9 +22,11 @@ returns c =
     let us = s .args .table .now in
     let t = p .before .before .before .before .long .ensures in
     let own = p .before .share .ensures
-    ∙ ap₂ valueShare (p .before .before .before .fields-of .ensures ∙ ap tableFields t) (p .before .before .bytes-of .ensures .0 ∙ ap (λ (k : ℕ). tableBytes k (s .args .n)) t) in
+    ∙ ap₂ valueShare (p .before .before .before .fields-of .ensures ∙ ap tableFields t)
+    (p .before .before .bytes-of .ensures .0 ∙ ap (λ (k : ℕ). tableBytes k (s .args .n)) t) in
     let plain = c .share2 .ensures
-    ∙ ap₂ valueShare (p .plan .ensures .0) (c .before .packed-bytes .ensures .0 ∙ ap (λ (f : Fields). packedBytes (s .args .n) (f .width)) (p .plan .ensures .0)) in
+    ∙ ap₂ valueShare (p .plan .ensures .0)
+    (c .before .packed-bytes .ensures .0 ∙ ap (λ (f : Fields). packedBytes (s .args .n) (f .width)) (p .plan .ensures .0)) in
     (ap₂ ltb own plain, p .plan .ensures .1)
 
 pub saves-spec : {M : Type 1} → statement M

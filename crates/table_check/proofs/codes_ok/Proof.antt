@@ -45,7 +45,8 @@ returns-3 c =
     (λ r. r ∙ sym (each-used (a .t) cs (marks-one 256 (a .t) (s .pre .3) cs (subst (λ (l : List ℕ). AllMarked l (a .t)) marks (c .all-marked .ensures .0 r)))))
     (λ r.
     true-or (usedAll (a .t) cs)
-    (λ u. absurd (c .all-marked .ensures .1 r (subst (λ (l : List ℕ). AllMarked l (a .t)) (sym marks) (one-marks 256 (a .t) (s .pre .3) cs (used-each (a .t) cs u)))))
+    (λ u. absurd (c .all-marked .ensures .1 r
+    (subst (λ (l : List ℕ). AllMarked l (a .t)) (sym marks) (one-marks 256 (a .t) (s .pre .3) cs (used-each (a .t) cs u)))))
     (λ u. r ∙ sym u)) in
     used ∙ sym (rw (sym (i .before .spare-ok .ensures) ∙ spare i, sym (m .ensures .0) ∙ e))
 

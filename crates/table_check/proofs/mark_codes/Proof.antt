@@ -32,8 +32,10 @@ more c =
 returns : tie.Need-returns Inv-loop μ-loop
 returns c =
     let k = c .before in
-    let l = k .before .before in
-    (counting-stop (l .loop .inv .0) (k .next-of .result) (more (k .before)) (code k) (c .if1 .taken), λ e. absurd (let z : _≡_ {A = ℕ} 0 1 = cc in omega arith))
+    let l = k .before .before in (
+      counting-stop (l .loop .inv .0) (k .next-of .result) (more (k .before)) (code k) (c .if1 .taken),
+      λ e. absurd (let z : _≡_ {A = ℕ} 0 1 = cc in omega arith),
+    )
 
 add-at : tie.Need-add-at Inv-loop μ-loop
 add-at c =
@@ -66,7 +68,8 @@ pub mark-codes-spec : {M : Type 1} → statement M
 mark-codes-spec =
     tie.close (tie.spec Inv-loop μ-loop
     (λ c. (counting-none _ _ _, omega arith, omega arith))
-    (λ c κs. let l = c .before in let s = l .before .before .before in (high-width _ (s .pre .0), c .loop-test .taken, s .pre .1, l .loop .inv .1, l .loop .inv .2))
+    (λ c κs. let l = c .before in let s = l .before .before .before in
+    (high-width _ (s .pre .0), c .loop-test .taken, s .pre .1, l .loop .inv .1, l .loop .inv .2))
     (λ c. c .before .before .before .loop .inv .0 .size)
     returns
     (λ c. let l = c .before .before .before in omega (arith, c .if1 .left, l .loop .inv .0 .size, l .before .before .before .pre .2))

@@ -33,7 +33,8 @@ returns-3 c =
     let s = p .before .before in
     let a = s .args in
     now-there (a .table .now) (a .n) (p .place .result) (unbiased (a .b)) (s .pre .0) (p .place .ensures .0) (p .place .ensures .1) (c .before .put-in .last .0)
-    (c .before .put-in .kept .0) (q .before .before .has .ensures .1 (q .before .if1 .left)) (omega (arith, s .pre .0, q .if2 .left)) (c .before .put-in .ensures)
+    (c .before .put-in .kept .0) (q .before .before .has .ensures .1 (q .before .if1 .left)) (omega (arith, s .pre .0, q .if2 .left))
+    (c .before .put-in .ensures)
 
 pub added-spec : {M : Type 1} → statement M
 added-spec =

@@ -43,14 +43,16 @@ returns : tie.Need-returns Inv-loop μ-loop
 returns c =
     let d = c .before .before in
     let l = d .before .before .before .before .before in
-    gathered-many (l .loop .inv) (unbiased (d .before .biased .result)) (d .before .before .before .before .loop-test .taken) (value (d .before)) (d .added .last .0)
+    gathered-many (l .loop .inv) (unbiased (d .before .biased .result)) (d .before .before .before .before .loop-test .taken) (value (d .before))
+    (d .added .last .0)
     (d .added .result) (holds d) (omega (arith, c .if1 .taken, holds d .size))
 
 loop-again : tie.Need-loop-again Inv-loop μ-loop
 loop-again c =
     let d = c .before .before in
     let l = d .before .before .before .before .before in
-    gathered-more (l .loop .inv) (unbiased (d .before .biased .result)) (d .before .before .before .before .loop-test .taken) (value (d .before)) (d .added .last .0)
+    gathered-more (l .loop .inv) (unbiased (d .before .biased .result)) (d .before .before .before .before .loop-test .taken) (value (d .before))
+    (d .added .last .0)
     (d .added .result) (holds d) (omega (arith, c .if1 .left, holds d .size))
 
 same-length-2 : tie.Need-same-length-2 Inv-loop μ-loop

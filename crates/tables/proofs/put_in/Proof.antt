@@ -18,7 +18,8 @@ abbrev μ-loop : tie.MeasureT-loop
 loop-holds : tie.Need-loop-holds Inv-loop μ-loop
 loop-holds c =
     let s = c .before in
-    let e : toZ w64 (ofZ w64 (c .unbiased .result)) ≡ unbiased (s .args .b) = toZ-ofZ {w = w64} {z = c .unbiased .result} (search needs) ∙ c .unbiased .ensures in
+    let e : toZ w64 (ofZ w64 (c .unbiased .result)) ≡ unbiased (s .args .b) = toZ-ofZ {w = w64} {z = c .unbiased .result} (search needs) ∙ c .unbiased .ensures
+    in
     rw e (moved-none _ _ _ _ (s .pre .1) (s .pre .0))
 
 room : (c : tie.At-loop Inv-loop μ-loop) → c .before .before .args .n < length (c .loop .table)

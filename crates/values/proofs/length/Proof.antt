@@ -41,7 +41,8 @@ returns-4 : tie.Need-returns-4
 returns-4 c =
     let s = c .before .before .before in
     let p = rw (c .before .enum-told4 .given .1) at (s .pre) in
-    rw (c .before .enum-told4 .given .1) (length-is (s .args .values .now) (p .3) (fieldsOf (s .args .fields)) (p .0) (c .bytes-of .result) (c .bytes-of .ensures .0))
+    rw (c .before .enum-told4 .given .1)
+    (length-is (s .args .values .now) (p .3) (fieldsOf (s .args .fields)) (p .0) (c .bytes-of .result) (c .bytes-of .ensures .0))
 
 pub length-spec : {M : Type 1} → statement M
 length-spec = tie.close (tie.spec (λ c. search needs) length-requires (λ c. search needs) length-requires-2

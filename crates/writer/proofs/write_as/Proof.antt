@@ -32,7 +32,8 @@ returns-2 c =
     let b = w .before .before .before in
     let a = b .before .before .before .before .before .before .args in
     let same =
-    ap (λ (ed : Edition). writeAs (chosen ed (a .values .now)) (a .power) (a .ids .now) (a .values .now) (length (a .out .now))) (sym (b .by-plan .ensures .0 (w .before .before .if1 .taken))) in
+    ap (λ (ed : Edition). writeAs (chosen ed (a .values .now)) (a .power) (a .ids .now) (a .values .now) (length (a .out .now)))
+    (sym (b .by-plan .ensures .0 (w .before .before .if1 .taken))) in
     (w .write-own .ensures .0 ∙ ap writeReply same, w .write-own .ensures .1 ∙ ap (λ (o : Outcome (List ℕ)). writeOut o (a .out .now)) same)
 
 write-by-requires : tie.Need-write-by-requires

@@ -10,7 +10,8 @@ use Rattle.table_values.proofs.writing.put.Tie as tie
 fits : (s : tie.Start) → 8 * length (s .args .table .now) ≤ length (s .args .out .now)
 fits s = omega (arith, length-section (s .args .table .now) (s .args .values .now), s .pre .4)
 
-within : (c : tie.After-slice-known2) → 8 * length (c .before .before .before .before .before .args .table .now) ≤ length (c .before .before .put-entries .last .0)
+within : (c : tie.After-slice-known2) → 8 * length (c .before .before .before .before .before .args .table .now) ≤ length
+    (c .before .before .put-entries .last .0)
 within c = omega (arith, fits (c .before .before .before .before .before), c .before .before .put-entries .kept .0)
 
 put-codes-requires : tie.Need-put-codes-requires

@@ -38,7 +38,8 @@ more c =
     omega (arith, length-codes (a .table .now) (a .values .now), c .loop-test .taken)
 
 -- a turn's code
-code : (c : tie.After-long2 Inv-loop μ-loop) → let l = c .before .before .before .before .before .before in let a = l .before .before .before .before .before .args in
+code : (c : tie.After-long2 Inv-loop μ-loop) → let l = c .before .before .before .before .before .before in let a =
+    l .before .before .before .before .before .args in
     c .long2 .result ≡ getD (map (codeIn (a .table .now)) (a .values .now)) (l .loop .i) 0
 code c =
     let p = c .before .before in
