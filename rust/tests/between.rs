@@ -4,7 +4,7 @@
 mod common;
 
 use common::parts::{self, Parts};
-use common::runs::{self, number, scanned, some_values, with, Number, RUN};
+use common::runs::{self, number, ordinals, scanned, some_values, with, Number, RUN};
 use common::{same, Random, PACKED, THREE_PAIRS};
 use signalfern::{Column, Edition, Header, Refusal};
 
@@ -47,6 +47,41 @@ fn as_a_plain_scan_has_it() {
         }
     }
     assert!(told[0] > 300 && told[1] > 300, "{told:?}");
+}
+
+/// The values at the borders of runs, and all from them on: small ones in steps of 8, and widths of 0 and 64 side by
+/// side, either way round.
+#[test]
+fn values_at_the_borders_of_runs() {
+    let mut random = Random::new(98);
+    let mut wide: Vec<i64> = (0..RUN).map(|_| random.next() as i64).collect();
+    wide[..2].copy_from_slice(&[i64::MIN, i64::MAX]);
+    let mut steps = |low: i64, most| {
+        (0..RUN)
+            .map(|_| low + 8 * random.below(most) as i64)
+            .collect()
+    };
+    let small: [Vec<i64>; 3] = [steps(-40, 16), steps(8_000_000_000, 4), steps(-16, 1024)];
+    let equal = vec![7; RUN];
+    for three in [
+        small.concat(),
+        [&equal[..], &wide, &equal].concat(),
+        [&wide[..], &equal, &wide].concat(),
+    ] {
+        for count in [0, 1, 16_383, 16_384, 16_385, 40_000] {
+            let values = &three[..count];
+            let column = runs::column(values);
+            assert_eq!(same::check(&column), Ok(count as u64));
+            for ordinal in ordinals(count) {
+                let value = values[ordinal];
+                assert_eq!(runs::value(&column, ordinal), Ok(value));
+                for high in [value, i64::MAX] {
+                    let found = same::first_between(&column, value, high);
+                    assert_eq!(found, Ok(scanned(values, value, high)), "{value} to {high}");
+                }
+            }
+        }
+    }
 }
 
 /// Runs of a few values each time, in every order: the first run that holds one answers.

@@ -46,22 +46,23 @@ fn so_many_distinct_values() {
             by_every_call(&column, &values);
         }
     }
-    // One more: plain, and the writer's edition is 1.
-    let values = far_apart(257, 1001);
-    let plain = same::write_exactly(&tables::ids(1001), &values, Edition::Table, 9);
-    assert_eq!(plain[0], 1);
+    // One, and one more than 256: plain, and the writer's edition is 1.
+    for (entries, count) in [(1, 0), (1, 3), (1, 3000), (257, 3000)] {
+        let values = far_apart(entries, count);
+        let (plain, table) = plans::planned(&tables::ids(count), &values, 9);
+        assert_eq!((plain[0], table.len()), (1, 0));
+        by_every_call(&plain, &values);
+    }
 }
 
 /// Each call answers as the list does.
 fn by_every_call(column: &[u8], values: &[i64]) {
-    let ordinals = [0, 1, 2, 7, 8, 9, values.len() / 2, values.len() - 1];
-    let ordinals: Vec<usize> = (ordinals.into_iter())
-        .filter(|&o| o < values.len())
-        .collect();
-    for &ordinal in &ordinals {
-        assert_eq!(value(column, ordinal), Ok(values[ordinal]));
+    for (ordinal, &listed) in values.iter().enumerate() {
+        assert_eq!(value(column, ordinal), Ok(listed));
     }
-    let mut asked: Vec<u32> = ordinals.iter().map(|&o| 3 * o as u32).collect();
+    let last = values.len().saturating_sub(1);
+    let ordinals = [0, 1, 2, 7, 8, 9, values.len() / 2, last].into_iter();
+    let mut asked: Vec<u32> = ordinals.map(|o| 3 * o as u32).collect();
     asked.extend([1, 2, 3 * values.len() as u32]);
     Tally::default().try_all(column, &asked);
     let checked = Checked::new(column).unwrap();

@@ -6,13 +6,13 @@ ghost use Rattle.format.specs.Refusals.{refused, EDITION};
 ghost use Rattle.format.specs.Editions.{runs, editions};
 ghost use Rattle.format.specs.Opening.{headOk, lengthOk, openColumn};
 ghost use Rattle.format.specs.FirstBetween.{betweenSteps, firstBetween, firstBetweenIn};
-ghost use Rattle.format.specs.Replies.{betweenOf};
+ghost use Rattle.answers.specs.Replies.{betweenOf};
 ghost use Rattle.values.specs.Edition.{editionOf};
 ghost use Rattle.column.specs.Opened.{columnOf};
+use answers::Between;
+use answers::Refusal;
 use column::Column;
 use column::Opening;
-use format::Between;
-use format::Refusal;
 use header_numbers::Number;
 use run_reader::Found;
 

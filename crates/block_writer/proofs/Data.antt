@@ -3,8 +3,8 @@ use Rattle.format.specs.Kit.{_≡_, refl, sym, ap, ap₂, _∙_, List, [], _++_
 use Rattle.format.specs.Kit.{sets}
 use Rattle.format.specs.Bytes.{digits, low, bytesOf}
 use Rattle.format.specs.Ids.{byKind, kindOf, rankBytes, dataBytes, blockBytes, blockData, blockOf}
-use Rattle.format.proofs.Digits.{length-digits}
-use Rattle.format.proofs.Stores.{sets-then}
+use Rattle.laws.proofs.Digits.{length-digits}
+use Rattle.laws.proofs.Stores.{sets-then}
 use Rattle.block_writer.specs.Part.{placesFrom, runOf, bitsOf, From}
 use Rattle.block_writer.proofs.Words.{places-cons, places-end}
 use Rattle.format.specs.Ids as F

@@ -3,9 +3,9 @@
 use Rattle.format.specs.Kit.{_≡_, refl, sym, ap, ap₂, _∙_, subst, List, ℕ, _+_, _-_, _*_, _/_, _%_, _^_, _≤_, _<_, zero-le, add-assoc, add-zero}
 use Rattle.format.specs.Kit.{div-one, arith, lit<, ones, length, sets}
 use Rattle.format.specs.Bytes.{digits, low}
-use Rattle.format.proofs.Digits.{length-digits, digits-append, digits-mod, pow-pow, div-pow}
-use Rattle.format.proofs.Ones.{ones-join, ones-of-none}
-use Rattle.format.proofs.Stores.{sets-then}
+use Rattle.laws.proofs.Digits.{length-digits, digits-append, digits-mod, pow-pow, div-pow}
+use Rattle.laws.proofs.Ones.{ones-join, ones-of-none}
+use Rattle.laws.proofs.Stores.{sets-then}
 use Rattle.block_writer.specs.Part.{bitsFrom, From, Gone}
 
 -- n words, and then the bytes of the rest

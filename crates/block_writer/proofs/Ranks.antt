@@ -6,12 +6,12 @@ use Rattle.format.specs.Limits.{minPower, maxPower}
 use Rattle.format.specs.Bytes.{digits, low, high, bytesOf, countFrom}
 use Rattle.format.specs.Ids.{countBelow, rankTable, rankBytes}
 use Rattle.format.specs.Pairs.{Asc}
-use Rattle.format.proofs.Digits.{length-high, div-pow}
-use Rattle.format.proofs.Places.{bitmap-is}
-use Rattle.format.proofs.Section.{length-bytesOf, length-countFrom}
-use Rattle.format.proofs.Ones.{ones-below, ones-join, ones-of-none}
-use Rattle.format.proofs.Sizes.{ranks-some}
-use Rattle.format.proofs.Stores.{sets-then, sets-comm}
+use Rattle.laws.proofs.Digits.{length-high, div-pow}
+use Rattle.laws.proofs.Places.{bitmap-is}
+use Rattle.laws.proofs.Section.{length-bytesOf, length-countFrom}
+use Rattle.laws.proofs.Ones.{ones-below, ones-join, ones-of-none}
+use Rattle.laws.proofs.Sizes.{ranks-some}
+use Rattle.laws.proofs.Stores.{sets-then, sets-comm}
 use Rattle.block_writer.specs.Part.{placesFrom, bitsFrom, bitsOf, From, Gone}
 use Rattle.block_writer.proofs.Lay.{lay}
 

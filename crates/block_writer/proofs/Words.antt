@@ -4,7 +4,7 @@ use Rattle.format.specs.Kit.{_≡_, refl, sym, ap, ap₂, _∙_, subst, List, [
 use Rattle.format.specs.Kit.{pow-suc, zero-add, mul-zero, add-one, arith, lit<, pow-add, pow-mono, length, getD, drop-of-length-le, drop-cons}
 use Rattle.format.specs.Pairs.{Asc}
 use Rattle.format.specs.Runs.{bitsAbove}
-use Rattle.format.proofs.Places.{asc-weaken, bits-nil}
+use Rattle.laws.proofs.Places.{asc-weaken, bits-nil}
 use Rattle.block_writer.specs.Part.{placesFrom, bitsFrom, From, Gone}
 
 -- ---- places

@@ -1,25 +1,13 @@
-// The library's writer beside the second writer.
-use format::Reply;
+// The library's writer beside the second writer. A value v is handed over as v + 2^63.
+use answers::Reply;
+use lists::Kinds;
 use lists::Runs;
-use lists::Values;
 use reference::Outcome;
-use std::num::wrapping_add_u64;
 
 // Numbers that are no refusal's: the writers disagree; the program has no such room to lend.
 const UNLIKE: u64 = 98;
 
 const UNTRIED: u64 = 99;
-
-// What a writer is told.
-pub struct How {
-    pub edition: u32,
-    pub power: u32,
-}
-
-// Edition 1 at a rank power.
-pub fn plain(power: u32) -> How {
-    How { edition: 1, power }
-}
 
 fn outcome(number: u64, with: u64) -> Outcome {
     Outcome { number, with }
@@ -36,53 +24,15 @@ fn numbers_of(r: Reply) -> Outcome {
     }
 }
 
-// The library's writer, with that much room.
-pub fn written(ids: &[u32], signed: &[i64], how: How, out: &mut [u8], room: u64) -> Outcome {
-    let end = room as usize;
-    if end > out.len() {
-        return outcome(UNTRIED, 0);
-    }
-    numbers_of(signalfern::write(ids, signed, how.edition, how.power, &mut out[0..end]))
-}
-
-fn expected(ids: &[u32], values: &[u64], how: How, own: &mut [u8], room: u64) -> Outcome {
-    let end = room as usize;
-    if end > own.len() {
-        return outcome(UNTRIED, 0);
-    }
-    reference::write(
-        ids,
-        values,
-        how.edition as u64,
-        how.power as u64,
-        &mut own[0..end],
-    )
-}
-
-// Both writers on painted bytes with that much room, of which they agree on each, and on 16 after them that they were not lent.
-fn compared(
-    ids: &[u32],
-    values: &[u64],
-    signed: &[i64],
-    how: How,
-    room: u64,
-    own: &mut [u8],
-    out: &mut [u8],
-) -> Outcome {
-    let painted = wrapping_add_u64(room, 16);
-    lists::paint(own, painted);
-    lists::paint(out, painted);
-    let want = expected(ids, values, how, own, room);
-    let got = written(ids, signed, how, out, room);
-    agreed(want, got, own, out, painted)
-}
-
-// What both answer, if they answer alike and their first bytes are the same.
-fn agreed(want: Outcome, got: Outcome, own: &[u8], out: &[u8], painted: u64) -> Outcome {
+// What both answer, if they answer alike and have left the same bytes, which start with these.
+fn agreed(want: Outcome, got: Outcome, own: &[u8], out: &[u8], bytes: &[u8]) -> Outcome {
     if !is(got, want.number, want.with) {
         return outcome(UNLIKE, 0);
     }
-    if !lists::same(own, out, painted) {
+    if !lists::starts(own, out) {
+        return outcome(UNLIKE, 0);
+    }
+    if !lists::starts(bytes, out) {
         return outcome(UNLIKE, 0);
     }
     want
@@ -90,114 +40,163 @@ fn agreed(want: Outcome, got: Outcome, own: &[u8], out: &[u8], painted: u64) -> 
 
 // ---- by a plan (document 02, [12])
 
-fn written_by(
-    ids: &[u32],
-    signed: &[i64],
-    table: &[i64],
-    power: u32,
-    out: &mut [u8],
-    room: u64,
-) -> Outcome {
-    let end = room as usize;
-    if end > out.len() {
-        return outcome(UNTRIED, 0);
-    }
-    numbers_of(signalfern::write_planned(ids, signed, table, power, &mut out[0..end]))
-}
-
 fn expected_by(
     ids: &[u32],
     values: &[u64],
-    plan: &[u64],
+    table: &[u64],
     power: u32,
-    own: &mut [u8],
     room: u64,
+    own: &mut [u8],
 ) -> Outcome {
     let end = room as usize;
     if end > own.len() {
         return outcome(UNTRIED, 0);
     }
-    reference::write_planned(ids, values, plan, power as u64, &mut own[0..end])
+    lists::paint(own);
+    let edition = if table.len() == 0 { 1 } else { 4 };
+    reference::write_by(ids, values, table, edition, power as u64, &mut own[0..end])
 }
 
-// With at most 4000 bytes of room: the outcome on which both agree.
-pub fn planned(
+fn written_by(
     ids: &[u32],
-    values: &[u64],
     signed: &[i64],
-    plan: &[u64],
     table: &[i64],
     power: u32,
     room: u64,
+    out: &mut [u8],
 ) -> Outcome {
-    let mut own = [0u8; 4016];
-    let mut out = [0u8; 4016];
-    lists::paint(&mut own, 4016);
-    lists::paint(&mut out, 4016);
-    let want = expected_by(ids, values, plan, power, &mut own, room);
-    let got = written_by(ids, signed, table, power, &mut out, room);
-    agreed(want, got, &own, &out, 4016)
+    let end = room as usize;
+    if end > out.len() {
+        return outcome(UNTRIED, 0);
+    }
+    lists::paint(out);
+    numbers_of(signalfern::write_planned(ids, signed, table, power, &mut out[0..end]))
+}
+
+// The library's, of at most 8 values.
+fn signed_by(
+    ids: &[u32],
+    values: &[u64],
+    table: &[u64],
+    power: u32,
+    room: u64,
+    out: &mut [u8],
+) -> Outcome {
+    let mut signed = [0i64; 8];
+    let mut entries = [0i64; 257];
+    let n = values.len();
+    let t = table.len();
+    if n > 8 {
+        return outcome(UNTRIED, 0);
+    }
+    if t > 257 {
+        return outcome(UNTRIED, 0);
+    }
+    lists::sign(&mut signed, values);
+    lists::sign(&mut entries, table);
+    written_by(ids, &signed[0..n], &entries[0..t], power, room, out)
+}
+
+// The outcome on which both writers agree, with at most 100 bytes of room, and they agree on 16 bytes after them that they were not lent.
+pub fn planned(ids: &[u32], values: &[u64], table: &[u64], power: u32, room: u64) -> Outcome {
+    let mut own = [0u8; 116];
+    let mut out = [0u8; 116];
+    let want = expected_by(ids, values, table, power, room, &mut own);
+    let got = signed_by(ids, values, table, power, room, &mut out);
+    agreed(want, got, &own, &out, b"")
 }
 
 // ---- by an edition
 
-// The outcome on which both writers agree, with at most 299000 bytes of room; the output starts with those bytes.
+// The second writer, on painted bytes with that much room.
+fn expected(
+    ids: &[u32],
+    values: &[u64],
+    edition: u32,
+    power: u32,
+    room: u64,
+    own: &mut [u8],
+) -> Outcome {
+    let end = room as usize;
+    if end > own.len() {
+        return outcome(UNTRIED, 0);
+    }
+    lists::paint(own);
+    reference::write(ids, values, edition as u64, power as u64, &mut own[0..end])
+}
+
+// The library's, with the first n of these values.
+fn written(
+    ids: &[u32],
+    signed: &[i64],
+    n: usize,
+    edition: u32,
+    power: u32,
+    room: u64,
+    out: &mut [u8],
+) -> Outcome {
+    let end = room as usize;
+    if end > out.len() {
+        return outcome(UNTRIED, 0);
+    }
+    if n > signed.len() {
+        return outcome(UNTRIED, 0);
+    }
+    lists::paint(out);
+    numbers_of(signalfern::write(ids, &signed[0..n], edition, power, &mut out[0..end]))
+}
+
+// The outcome on which both writers agree, with at most 80000 values and 300000 bytes of room; the output starts with those bytes.
 pub fn both(
     ids: &[u32],
     values: &[u64],
-    signed: &[i64],
-    how: How,
+    edition: u32,
+    power: u32,
     room: u64,
     bytes: &[u8],
 ) -> Outcome {
     let mut own = [0u8; 300000];
     let mut out = [0u8; 300000];
-    let r = compared(ids, values, signed, how, room, &mut own, &mut out);
-    if !lists::same(&out, bytes, bytes.len() as u64) {
-        return outcome(UNLIKE, 0);
-    }
-    r
+    let mut signed = [0i64; 80000];
+    lists::sign(&mut signed, values);
+    let want = expected(ids, values, edition, power, room, &mut own);
+    let got = written(ids, &signed, values.len(), edition, power, room, &mut out);
+    agreed(want, got, &own, &out, bytes)
 }
 
 // With no room, one byte short, just room and some to spare. Answers with the column's bytes, or 0 for a disagreement.
-pub fn at_rooms(ids: &[u32], values: &[u64], signed: &[i64], how: How) -> u64 {
-    let any = b"";
-    let n = both(ids, values, signed, how, 0, any).with;
+fn at_rooms(ids: &[u32], values: &[u64], edition: u32, power: u32) -> u64 {
+    let n = both(ids, values, edition, power, 0, b"").with;
     let less = std::num::wrapping_sub_u64(n, 1);
-    let more = wrapping_add_u64(n, 13);
-    if !is(both(ids, values, signed, how, less, any), 6, n) {
+    let more = std::num::wrapping_add_u64(n, 13);
+    if !is(both(ids, values, edition, power, less, b""), 6, n) {
         return 0;
     }
-    if !is(both(ids, values, signed, how, n, any), 0, n) {
+    if !is(both(ids, values, edition, power, n, b""), 0, n) {
         return 0;
     }
-    if !is(both(ids, values, signed, how, more, any), 0, n) {
+    if !is(both(ids, values, edition, power, more, b""), 0, n) {
         return 0;
     }
     n
 }
 
 // The first n pairs of the lists.
-fn first_pairs(n: u64, ids: &[u32], values: &[u64], signed: &[i64], how: How) -> u64 {
-    let end = n as usize;
-    if end > ids.len() {
+fn first_pairs(ids: &[u32], values: &[u64], n: usize, edition: u32, power: u32) -> u64 {
+    if n > ids.len() {
         return 0;
     }
-    if end > values.len() {
+    if n > values.len() {
         return 0;
     }
-    if end > signed.len() {
-        return 0;
-    }
-    at_rooms(&ids[0..end], &values[0..end], &signed[0..end], how)
+    at_rooms(&ids[0..n], &values[0..n], edition, power)
 }
 
-// One list, of at most 80000 pairs. Answers with the column's bytes, or 0 for a disagreement.
-pub fn list(runs: Runs, v: Values, how: How) -> u64 {
+// One list, of at most 80000 pairs, so. Answers with the column's bytes, or 0 for a disagreement.
+pub fn list(runs: Runs, kinds: Kinds, edition: u32, power: u32) -> u64 {
     let mut ids = [0u32; 80000];
     let mut values = [0u64; 80000];
-    let mut signed = [0i64; 80000];
-    let n = lists::fill_ids(&mut ids, runs);
-    lists::fill_values(&mut values, &mut signed, 0, n, v);
-    first_pairs(n, &ids, &values, &signed, how)
+    let n = lists::fill_ids(&mut ids, runs) as usize;
+    lists::fill_values(&mut values, kinds);
+    first_pairs(&ids, &values, n, edition, power)
 }

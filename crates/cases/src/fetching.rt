@@ -1,4 +1,4 @@
-// The library's fetch beside the second one: every width from 0 to 64, every index from 0 to 16, the number and its bytes.
+// The library's fetch (document 02, [5]) beside the second one: every width from 0 to 64, every index from 0 to 16, the number and its bytes.
 use super::say;
 use super::say::Tally;
 use packings::Order;
@@ -18,29 +18,24 @@ fn alike(s: &[u8], w: usize, i: usize) -> bool {
     got.number == want.number && got.bytes as u64 == want.bytes
 }
 
-fn of_width(t: Tally, s: &[u8], w: usize) -> Tally {
+// Each index of each width.
+fn of_widths(t: Tally, s: &[u8]) -> Tally {
     let mut t = t;
-    for i in 0..17usize {
-        t = t.with(alike(s, w, i));
-    }
-    t
-}
-
-fn of_widths(s: &[u8]) -> Tally {
-    let mut t = Tally::none();
-    for w in 0..65usize {
-        t = of_width(t, s, w);
+    for k in 0..1105usize {
+        t = t.with(alike(s, k / 17, k % 17));
     }
     t
 }
 
 // In bytes that differ, and in bytes of ones, where no bit that is left untrimmed goes unseen.
-pub fn numbers() -> Tally {
+pub fn numbers(t: Tally) -> Tally {
     let mut s = [255u8; 136];
-    let ones = of_widths(&s);
-    lists::paint(&mut s, 136);
-    say::numbers(
+    let ones = of_widths(Tally::none(), &s);
+    lists::paint(&mut s);
+    say::by_both(
+        t,
         b"numbers 0 to 16 of widths 0 to 64",
-        ones.and(of_widths(&s)),
+        b" fetched by both, ",
+        of_widths(ones, &s),
     )
 }

@@ -2,8 +2,8 @@
 use std::num::wrapping_add_u64;
 
 pub struct Tally {
-    pub cases: u64,
-    pub wrong: u64,
+    cases: u64,
+    wrong: u64,
 }
 
 impl Tally {
@@ -18,52 +18,39 @@ impl Tally {
             wrong: wrapping_add_u64(self.wrong, if right { 0 } else { 1 }),
         }
     }
-
-    pub fn and(self, other: Tally) -> Self {
-        Tally {
-            cases: wrapping_add_u64(self.cases, other.cases),
-            wrong: wrapping_add_u64(self.wrong, other.wrong),
-        }
-    }
 }
 
 fn text(s: &[u8]) {
     io::write_all(1, s);
 }
 
-pub fn line(s: &[u8]) {
-    text(s);
-    text(b"\n");
-}
-
-// A case with a line of its own.
-pub fn case(name: &[u8], right: bool) -> Tally {
+// One case more, with a line of its own.
+pub fn case(t: Tally, name: &[u8], right: bool) -> Tally {
     text(name);
     if right {
         text(b": as expected\n");
     } else {
         text(b": OTHERWISE\n");
     }
-    Tally::none().with(right)
+    t.with(right)
 }
 
-// A line for several cases, each done twice.
-fn by_both(name: &[u8], done: &[u8], t: Tally) -> Tally {
+// Several cases more, each done by both in that way, in one line.
+pub fn by_both(t: Tally, name: &[u8], done: &[u8], more: Tally) -> Tally {
     text(name);
     text(b": ");
-    io::print_decimal(1, t.cases);
+    io::print_decimal(1, more.cases);
     text(done);
-    io::print_decimal(1, std::num::wrapping_sub_u64(t.cases, t.wrong));
+    io::print_decimal(1, std::num::wrapping_sub_u64(more.cases, more.wrong));
     text(b" agree\n");
-    t
+    Tally {
+        cases: wrapping_add_u64(t.cases, more.cases),
+        wrong: wrapping_add_u64(t.wrong, more.wrong),
+    }
 }
 
-pub fn lists(name: &[u8], t: Tally) -> Tally {
-    by_both(name, b" written by both, ", t)
-}
-
-pub fn numbers(name: &[u8], t: Tally) -> Tally {
-    by_both(name, b" fetched by both, ", t)
+pub fn lists(t: Tally, name: &[u8], more: Tally) -> Tally {
+    by_both(t, name, b" written by both, ", more)
 }
 
 pub fn total(t: Tally) {

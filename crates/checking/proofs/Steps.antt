@@ -9,8 +9,8 @@ use Rattle.format.specs.Opening.{Opened, openColumn, idPart, valuePart}
 use Rattle.format.specs.Check.{accepted, check}
 use Rattle.format.specs.Orders.{lowByte}
 use Rattle.format.specs.Judge.{judge}
-use Rattle.format.proofs.Open.{sound}
-use Rattle.format.proofs.Unique.{OnlyBy, accepted-only}
+use Rattle.laws.proofs.Open.{sound}
+use Rattle.laws.proofs.Unique.{OnlyBy, accepted-only}
 use Rattle.values.specs.Edition.{tests}
 use Rattle.checking.specs.Tests.{holds, idsOk, columnOk, isTaken}
 

@@ -8,11 +8,11 @@ use Rattle.format.specs.Editions.{editions}
 use Rattle.format.specs.Column.{Head}
 use Rattle.format.specs.Opening.{Opened, openColumn, idPart, valuePart}
 use Rattle.format.specs.Check.{accepted}
-use Rattle.format.proofs.Tests.{both-true, true-both}
-use Rattle.format.proofs.Digits.{below-drop, below-take}
-use Rattle.format.proofs.Open.{sound}
-use Rattle.format.proofs.Editions.{lawful-reader}
-use Rattle.format.proofs.Halves.{halves-accepted, accepted-halves, kept}
+use Rattle.laws.proofs.Tests.{both-true, true-both}
+use Rattle.laws.proofs.Digits.{below-drop, below-take}
+use Rattle.laws.proofs.Open.{sound}
+use Rattle.laws.proofs.Editions.{lawful-reader}
+use Rattle.laws.proofs.Halves.{halves-accepted, accepted-halves, kept}
 use Rattle.format.specs.Orders.{lowByte}
 use Rattle.format.specs.Judge.{judge}
 use Rattle.judge.proofs.LowFirst.{judge-sound, judge-complete}

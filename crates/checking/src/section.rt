@@ -2,11 +2,11 @@
 ghost use mathlib.Core.Path.{_≡_};
 ghost use Prim.Native.Nat.{_≤_};
 ghost use Rattle.format.specs.Judge.{judgeSection};
-ghost use Rattle.format.specs.Replies.{orderOf, reasonNumber, judgementOf};
+ghost use Rattle.answers.specs.Replies.{orderOf, reasonNumber, judgementOf};
+use answers::ByteOrder;
+use answers::Judgement;
+use answers::Reason;
 use column::Column;
-use format::ByteOrder;
-use format::Judgement;
-use format::Reason;
 use section_check::Verdict;
 
 fn reason_of(why: u64) -> Reason

@@ -1,8 +1,8 @@
 -- Opening a column step by step: the first step that fails decides. Assumes nothing.
 use Rattle.format.specs.Kit.{_≡_, List, none, some, ℕ}
 use Rattle.format.specs.Refusals.{done, refused, andThen, given, EDITION}
-use Rattle.format.specs.Replies.{refusedAs}
-use Rattle.format.specs.declared.Refusal.{Refusal}
+use Rattle.answers.specs.Replies.{refusedAs}
+use Rattle.answers.specs.declared.Refusal.{Refusal}
 use Rattle.format.specs.HeaderNumbers.{numberAt, numbersAt}
 use Rattle.format.specs.Editions.{Edition, editions, editionIn}
 use Rattle.format.specs.Opening.{headFrom, openColumn}

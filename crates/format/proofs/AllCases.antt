@@ -11,7 +11,7 @@ use Rattle.format.proofs.PinsSets.{SetCases, set-cases, SetCheckCases, 
 use Rattle.format.proofs.PinsPlans.{PlanCases, plan-cases, PlannedCases, planned-cases, TableCases, table-cases}
 use Rattle.format.proofs.PinsSteps.{DamageCases, damage-cases, StepCases, step-cases, WalkCases, walk-cases}
 use Rattle.format.proofs.PinsProbes.{HalvingCases, halving-cases, ProbeCases, probe-cases}
-use Rattle.format.proofs.PinsTaken.{TakenCases, taken-cases}
+use Rattle.format.proofs.PinsTaken.{TakenCases, taken-cases, BackCases, back-cases}
 use Rattle.format.proofs.PinsPage.{PageCases, page-cases}
 use Rattle.format.proofs.PinsLucene.{LowCases, low-cases, LuceneCases, lucene-cases, ToldCases, told-cases}
 use Rattle.format.proofs.PinsJudge.{JudgeCases, judge-cases, DenseJudgeCases, dense-judge-cases}
@@ -41,6 +41,7 @@ pub record AllCases : Type 0 where
   pub planned-table : PlannedCases
   pub table-table : TableCases
   pub taken-table : TakenCases
+  pub back-table : BackCases
   pub page-table : PageCases
   pub low-table : LowCases
   pub lucene-table : LuceneCases
@@ -77,6 +78,7 @@ all-cases =
       planned-table = planned-cases;
       table-table = table-cases;
       taken-table = taken-cases;
+      back-table = back-cases;
       page-table = page-cases;
       low-table = low-cases;
       lucene-table = lucene-cases;

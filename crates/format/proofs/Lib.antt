@@ -1,6 +1,5 @@
--- What is proved about the definitions: Demands.antt has the demands, AllCases.antt the computed cases, Meaning.antt and MeaningValues.antt
--- the documents' words behind the definitions, Lawful.antt what a codec owes and Editions.antt that each keeps it, Alone.antt what a
--- reader of edition 1 alone says to edition 2; the others lead there.
+-- AllCases.antt has every computed case about the definitions. Never.antt and RankBytes.antt are the two theorems that stand here, since an edit of a
+-- definition must break them (document 02, [7]). All else that is proved of the definitions stands in crate laws.
 pub mod AllCases
 pub mod Computing
 pub mod Starred
@@ -17,67 +16,5 @@ pub mod PinsPage
 pub mod PinsLucene
 pub mod PinsJudge
 pub mod PinsRuns
-pub mod Demands
-pub mod Meaning
-pub mod MeaningValues
-pub mod LeastWidth
-pub mod Cases
-pub mod Tests
-pub mod Rules
-pub mod Stores
-pub mod Digits
-pub mod Runs
-pub mod Orders
-pub mod Bits
-pub mod BitsLow
-pub mod Widths
-pub mod Taken
-pub mod Section
-pub mod Header
-pub mod Minimal
-pub mod BadNumber
-pub mod Places
-pub mod SetBits
-pub mod Blocks
-pub mod Gcd
-pub mod Values
-pub mod Fits
-pub mod Jumps
-pub mod Bounds
-pub mod Pieces
-pub mod Sizes
-pub mod Standing
-pub mod Lawful
-pub mod Scaled
-pub mod ValueRuns
-pub mod InRuns
-pub mod Ascending
-pub mod SameMembers
-pub mod Table
-pub mod Editions
-pub mod Plans
-pub mod Open
-pub mod RoundTrip
-pub mod Unique
-pub mod Halves
-pub mod Ones
-pub mod Dense
-pub mod Find
-pub mod Place
-pub mod Halving
-pub mod Skip
-pub mod Entered
-pub mod FromEntry
-pub mod Looked
-pub mod Probes
-pub mod Walked
-pub mod Words
 pub mod Never
-pub mod HeaderFaults
-pub mod InTurn
-pub mod Sequences
-pub mod Paged
-pub mod Retired
-pub mod Layered
-pub mod Alone
-pub mod FirstBetween
+pub mod RankBytes

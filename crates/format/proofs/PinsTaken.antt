@@ -1,7 +1,10 @@
 -- The bytes that a fetch takes (document 02, [5]), as one computed table: every width from 0 to 64, every index from 0 to 16. What is expected
--- was counted bit by bit: the different bytes among (iw + k) div 8, k below w. Assumes nothing.
-use Rattle.format.specs.Kit.{_≡_, ℕ, zero, suc, _+_, _*_}
+-- was counted bit by bit: the different bytes among (iw + k) div 8, k below w. And the numbers: those of every width come back. Assumes nothing.
+use Rattle.format.specs.Kit.{_≡_, List, [], _∷_, map, ℕ, zero, suc, _+_, _*_, _-_, _^_}
+use Rattle.format.specs.Bytes.{countFrom}
 use Rattle.format.specs.Bits.{fetchedBytes}
+use Rattle.format.specs.Codec.{Packing}
+use Rattle.format.specs.Editions.{highFirst, lowFirst, luceneWidths}
 use Rattle.format.proofs.Computing.{computing}
 
 -- the counts of indices 0 to n - 1, a decimal digit each, index 0 first
@@ -82,3 +85,18 @@ pub record TakenCases : Type 0 where
 pub taken-cases : TakenCases
 unfolding computing countsTo counts
 taken-cases = search
+
+-- the least and the greatest number of a width by turns, so that each has neighbours of other bits
+unfoldable pub ends : ℕ → List ℕ
+ends w = 0 ∷ (2 ^ w - 1) ∷ 0 ∷ (2 ^ w - 1) ∷ []
+
+unfoldable pub back : Packing → ℕ → List ℕ
+back p w = map (p .fetch (p .pack w (ends w)) w) (countFrom 4 0)
+
+pub record BackCases : Type 0 where
+  pub every-width : map (back highFirst) (countFrom 65 0) ≡ map ends (countFrom 65 0)
+  pub listed-widths : map (back lowFirst) luceneWidths ≡ map ends luceneWidths
+
+pub back-cases : BackCases
+unfolding computing ends back
+back-cases = search

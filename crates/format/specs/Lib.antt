@@ -32,6 +32,5 @@ pub mod SetCalls
 pub mod Page
 pub mod Orders
 pub mod Judge
-pub mod Replies
 pub mod Runs
 pub mod Stores

@@ -4,7 +4,7 @@ use Rattle.format.specs.Kit.{mul-add, mul-assoc, mul-comm, mul-one, le-mul-of-p
 use Rattle.format.specs.Kit.{mul-le-mul-left, add-one, arith, lt-ltb, le-ltb, eq-eqb, ne-eqb, eqb-true, eqb-false, not-true, not-false, eqb, length}
 use Rattle.format.specs.Kit.{getD, drop, drop-of-length-le, drop-cons}
 use Rattle.format.specs.HeaderNumbers.{Got, got, short, bad, above, readGroups, readNumber}
-use Rattle.format.proofs.Cases.{equal-or}
+use Rattle.laws.proofs.Cases.{equal-or}
 use Rattle.header_numbers.specs.Read.{numberOf, numberOn, decidesAt}
 use Rattle.header_numbers.specs.declared.Number.{Number}
 use Rattle.header_numbers.specs.declared.Number.the-variants.{Is, Short, Bad}

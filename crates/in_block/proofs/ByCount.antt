@@ -4,9 +4,9 @@ use Rattle.format.specs.Kit.{_<_, _≤_, arith, ltb, eqb, ltb-true, ltb-false, 
 use Rattle.format.specs.Bytes.{lowAt}
 use Rattle.format.specs.IdsRead.{shorts}
 use Rattle.format.specs.LookUp.{Sought, halve, halved}
-use Rattle.format.proofs.Cases.{below-or}
-use Rattle.format.proofs.Halving.{halve-none, halve-hit}
-use Rattle.format.proofs.Probes.{length-shorts}
+use Rattle.laws.proofs.Cases.{below-or}
+use Rattle.laws.proofs.Halving.{halve-none, halve-hit}
+use Rattle.laws.proofs.Probes.{length-shorts}
 use Rattle.in_block.specs.Place.{indexOr}
 use Rattle.in_block.proofs.Entries.{Half, the-entry, goes}
 

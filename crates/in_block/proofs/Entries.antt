@@ -4,9 +4,9 @@ use Rattle.format.specs.Kit.{_<_, _≤_, add-zero, arith, add-one, ltb, getD, d
 use Rattle.format.specs.Bytes.{lowAt}
 use Rattle.format.specs.IdsRead.{shorts}
 use Rattle.format.specs.LookUp.{Sought, halve, halving, halved, inSparse}
-use Rattle.format.proofs.Cases.{below-or}
-use Rattle.format.proofs.Halving.{halve-none, halve-hit, halve-past, halve-before, probes-12, IndexUnder, index-under}
-use Rattle.format.proofs.Probes.{length-shorts}
+use Rattle.laws.proofs.Cases.{below-or}
+use Rattle.laws.proofs.Halving.{halve-none, halve-hit, halve-past, halve-before, probes-12, IndexUnder, index-under}
+use Rattle.laws.proofs.Probes.{length-shorts}
 use Rattle.in_block.specs.Place.{inOneWord, Searched}
 use Rattle.in_block.specs.declared.Inner as In
 

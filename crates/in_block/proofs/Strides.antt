@@ -4,7 +4,7 @@ use Rattle.format.specs.Limits.{Power}
 use Rattle.format.specs.Bytes.{highAt}
 use Rattle.format.specs.Ids.{rankBytes}
 use Rattle.format.specs.LookUp.{strideLong, strideRank}
-use Rattle.format.proofs.Sizes.{ranks-some}
+use Rattle.laws.proofs.Sizes.{ranks-some}
 
 pub long-none : (p r : ℕ) → p ≡ 0 → strideLong p r ≡ 0
 unfolding strideLong

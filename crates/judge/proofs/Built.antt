@@ -12,10 +12,10 @@ use Rattle.format.specs.Pairs.{Below}
 use Rattle.format.specs.Runs.{totalBytes, Fine, AllFine, AscBlocks, endOf}
 use Rattle.format.specs.Orders.{Order, bytesIn, fixedAt, blockDataIn, blockIn, endIn}
 use Rattle.format.specs.Judge.{cutOff, firstFailed, testsAt, unlessFault, Ended, judgeFrom}
-use Rattle.format.proofs.Digits.{below-drop}
-use Rattle.format.proofs.RoundTrip.{same-refl}
-use Rattle.format.proofs.Runs.{length-ids}
-use Rattle.format.proofs.Sizes.{block-total}
+use Rattle.laws.proofs.Digits.{below-drop}
+use Rattle.laws.proofs.RoundTrip.{same-refl}
+use Rattle.laws.proofs.Runs.{length-ids}
+use Rattle.laws.proofs.Sizes.{block-total}
 use Rattle.judge.proofs.Numbers.{number-split, first-lt}
 use Rattle.judge.proofs.Held.{Held, held, passed}
 use Rattle.judge.proofs.Standing.{shape, BlocksAt, ahead, end-read, end-six, within}

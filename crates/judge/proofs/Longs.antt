@@ -8,12 +8,12 @@ use Rattle.format.specs.Ids.{bitmap, countBelow}
 use Rattle.format.specs.Pairs.{Below, Asc}
 use Rattle.format.specs.LookUp.{onesFrom}
 use Rattle.format.specs.Orders.{Order, lowByte, highByte, bytesIn, fixedAt, numbersIn, longsIn}
-use Rattle.format.proofs.Bits.{below-at}
-use Rattle.format.proofs.Blocks.{low-back}
-use Rattle.format.proofs.Dense.{ones-from}
-use Rattle.format.proofs.Digits.{below-take, below-drop, below-reverse, below-digits, digits-append, digits-mod, digits-from, from-lt, length-digits, pow-pow}
-use Rattle.format.proofs.Ones.{ones-in, ones-below}
-use Rattle.format.proofs.Section.{length-bytesOf}
+use Rattle.laws.proofs.Bits.{below-at}
+use Rattle.laws.proofs.Blocks.{low-back}
+use Rattle.laws.proofs.Dense.{ones-from}
+use Rattle.laws.proofs.Digits.{below-take, below-drop, below-reverse, below-digits, digits-append, digits-mod, digits-from, from-lt, length-digits, pow-pow}
+use Rattle.laws.proofs.Ones.{ones-in, ones-below}
+use Rattle.laws.proofs.Section.{length-bytesOf}
 use Rattle.judge.proofs.Numbers.{length-in, length-numbers, numbers-below, numbers-bytes, bytes-of}
 
 -- ---- bytes and bitmaps

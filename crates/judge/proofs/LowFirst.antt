@@ -10,11 +10,11 @@ use Rattle.format.specs.LookUp.{onesFrom}
 use Rattle.format.specs.Pairs.{Below, Asc}
 use Rattle.format.specs.Orders.{lowByte, numbersIn, longsIn, blockDataIn, blockIn, endIn, entryIn, idSectionIn}
 use Rattle.format.specs.Judge.{judge}
-use Rattle.format.proofs.Blocks.{read-runs}
-use Rattle.format.proofs.Halves.{SectionOf}
-use Rattle.format.proofs.RoundTrip.{runs-le}
-use Rattle.format.proofs.Runs.{fine-runs, ids-runs}
-use Rattle.format.proofs.Standing.{Stands, stands-long}
+use Rattle.laws.proofs.Blocks.{read-runs}
+use Rattle.laws.proofs.Halves.{SectionOf}
+use Rattle.laws.proofs.RoundTrip.{runs-le}
+use Rattle.laws.proofs.Runs.{fine-runs, ids-runs}
+use Rattle.laws.proofs.Standing.{Stands, stands-long}
 use Rattle.judge.proofs.Numbers.{numbers-below, numbers-bytes}
 use Rattle.judge.proofs.Longs.{longs-low, ones-upto}
 use Rattle.judge.proofs.Ranks.{ones-all}

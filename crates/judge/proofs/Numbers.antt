@@ -5,8 +5,8 @@ use Rattle.format.specs.Kit.{take-append-drop, take-at, drop-at, drop-drop}
 use Rattle.format.specs.Bytes.{low, fromLow, bytesOf}
 use Rattle.format.specs.Pairs.{Below}
 use Rattle.format.specs.Orders.{Order, lowByte, highByte, bytesIn, numberIn, numbersIn}
-use Rattle.format.proofs.Digits.{below-take, below-drop, below-reverse, digits-from, from-lt, length-digits, length-high, from-high}
-use Rattle.format.proofs.Blocks.{low-back}
+use Rattle.laws.proofs.Digits.{below-take, below-drop, below-reverse, digits-from, from-lt, length-digits, length-high, from-high}
+use Rattle.laws.proofs.Blocks.{low-back}
 
 -- ---- one number
 

@@ -5,7 +5,7 @@ use Rattle.format.specs.Refusals.{Outcome, done, refused}
 use Rattle.format.specs.Ids.{Entry, blockBytes, notTwo}
 use Rattle.format.specs.Orders.{Order, fixedAt}
 use Rattle.format.specs.Judge.{cutOff, leftOver, Test, firstFailed, testsAt, unlessFault, Ended, judgeFrom, jumpsIn, judgeEntries, judgeRest, judge}
-use Rattle.format.proofs.Tests.{stopped, need-stopped}
+use Rattle.laws.proofs.Tests.{stopped, need-stopped}
 use Rattle.judge.proofs.Entries.{missed}
 
 abbrev pub Numbered : ℕ → Type 0

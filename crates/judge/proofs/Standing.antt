@@ -6,8 +6,8 @@ use Rattle.format.specs.Bytes.{bytesOf}
 use Rattle.format.specs.Ids.{Run, Entry, Kind, sparse, dense, all, kindOf, byKind, rankBytes, dataBytes, blockBytes, rankTable, bitmap}
 use Rattle.format.specs.Runs.{totalBytes, Fine, AllFine}
 use Rattle.format.specs.Orders.{Order, bytesIn, numberIn, fixedAt, longsIn, blockDataIn, blockIn, endIn, entryIn}
-use Rattle.format.proofs.Blocks.{count-fits}
-use Rattle.format.proofs.Section.{length-bytesOf, length-rankTable}
+use Rattle.laws.proofs.Blocks.{count-fits}
+use Rattle.laws.proofs.Section.{length-bytesOf, length-rankTable}
 use Rattle.judge.proofs.Numbers.{length-in, number-back}
 use Rattle.judge.proofs.Longs.{longs-long}
 

@@ -7,8 +7,8 @@ use Rattle.format.specs.Bytes.{same}
 use Rattle.format.specs.Ids.{blockBytes}
 use Rattle.format.specs.Orders.{Order, fixedAt, endIn}
 use Rattle.format.specs.Judge.{Test, firstFailed, testsAt}
-use Rattle.format.proofs.Sizes.{block-total}
-use Rattle.format.proofs.Tests.{both-true}
+use Rattle.laws.proofs.Sizes.{block-total}
+use Rattle.laws.proofs.Tests.{both-true}
 use Rattle.judge.proofs.Held.{Passed}
 
 -- ---- any table

@@ -8,11 +8,11 @@ use Rattle.format.specs.Ids.{runs, jumps}
 use Rattle.format.specs.Pairs.{Below}
 use Rattle.format.specs.Orders.{Order, blockIn, endIn, entryIn, idSectionIn}
 use Rattle.format.specs.Judge.{leftOver, judge, judgeSection}
-use Rattle.format.proofs.Bounds.{jumps-le}
-use Rattle.format.proofs.Jumps.{asc-blocks}
-use Rattle.format.proofs.Rules.{power-fact}
-use Rattle.format.proofs.Runs.{fine-runs}
-use Rattle.format.proofs.Tests.{needed, both-true}
+use Rattle.laws.proofs.Bounds.{jumps-le}
+use Rattle.laws.proofs.Jumps.{asc-blocks}
+use Rattle.laws.proofs.Rules.{power-fact}
+use Rattle.laws.proofs.Runs.{fine-runs}
+use Rattle.laws.proofs.Tests.{needed, both-true}
 use Rattle.judge.proofs.Standing.{length-blocksIn}
 use Rattle.judge.proofs.Judged.{SectionIn, Before, judge-sound, judge-complete}
 use Rattle.judge.proofs.Why.{Why, right, told}

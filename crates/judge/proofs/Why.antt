@@ -10,11 +10,11 @@ use Rattle.format.specs.Pairs.{Below}
 use Rattle.format.specs.Runs.{totalBytes, AllFine}
 use Rattle.format.specs.Orders.{Order, blockIn, entryIn}
 use Rattle.format.specs.Judge.{jumpWrong, leftOver, firstFailed, testsAt, unlessFault, Ended, judgeFrom, jumpsIn, judgeEntries, judgeRest, judge}
-use Rattle.format.proofs.Jumps.{asc-blocks}
-use Rattle.format.proofs.RoundTrip.{runs-le}
-use Rattle.format.proofs.Runs.{ids-runs, fine-runs}
-use Rattle.format.proofs.Section.{length-bytesOf}
-use Rattle.format.proofs.Tests.{stopped}
+use Rattle.laws.proofs.Jumps.{asc-blocks}
+use Rattle.laws.proofs.RoundTrip.{runs-le}
+use Rattle.laws.proofs.Runs.{ids-runs, fine-runs}
+use Rattle.laws.proofs.Section.{length-bytesOf}
+use Rattle.laws.proofs.Tests.{stopped}
 use Rattle.judge.proofs.Standing.{entry-eight, length-blocksIn}
 use Rattle.judge.proofs.Built.{Comes, comes, went-all}
 use Rattle.judge.proofs.Entries.{Missed, missed, entries-all, entries-front, entries-end, entry-missed}

@@ -7,7 +7,7 @@ use Rattle.format.specs.Editions.{editions}
 use Rattle.format.specs.Opening.{openColumn}
 use Rattle.format.specs.LookUp.{Look}
 use Rattle.format.specs.Layered.{Layer, machine, correction, ofLayer, underneath, onTop, lookUpLayered, noPart, sectionIn, partBy, layeredPart}
-use Rattle.format.proofs.Layered.{Within, part-within}
+use Rattle.laws.proofs.Layered.{Within, part-within}
 use Rattle.layered.specs.Answers.{layerOf, layeredOf, partOf, topOf}
 use Rattle.layered.specs.declared.Layer as La
 use Rattle.layered.specs.declared.Layered as Ly

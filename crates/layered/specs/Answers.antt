@@ -1,6 +1,6 @@
 -- The code's layered answers as `format`'s. Assumes nothing.
 use Rattle.format.specs.Refusals.{Outcome}
-use Rattle.format.specs.Replies.{refusalNumber, refusalWith}
+use Rattle.answers.specs.Replies.{refusalNumber, refusalWith}
 use Rattle.format.specs.LookUp.{Look}
 use Rattle.format.specs.Layered as Ld
 use Rattle.layered.specs.declared.Layer as La

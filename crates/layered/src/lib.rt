@@ -6,13 +6,13 @@ ghost use Rattle.format.specs.Editions.{editions};
 ghost use Rattle.format.specs.Opening.{openColumn};
 ghost use Rattle.format.specs.LookUp.{Look, lookUp, lookUpIn};
 ghost use Rattle.format.specs.Layered.{underneath, onTop, lookUpLayered, lookUpLayeredIn, noPart, sectionIn, layeredPart, IsPart};
-ghost use Rattle.format.specs.Replies.{answerOf};
+ghost use Rattle.answers.specs.Replies.{answerOf};
 ghost use Rattle.column.specs.Opened.{columnOf};
 ghost use Rattle.layered.specs.Answers.{layerOf, layeredOf, partOf, topOf};
+use answers::Answer;
+use answers::Refusal;
 use column::Column;
 use column::Opening;
-use format::Answer;
-use format::Refusal;
 
 // Which of the two columns.
 pub enum Layer {

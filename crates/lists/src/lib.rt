@@ -15,15 +15,23 @@ pub struct Runs {
     pub high: Run,
 }
 
-// Values smallest + (x << shift): x is 0 for the first value, `most` for the second, and any part of mask for the others.
+// Values smallest + (x << shift): x is 0 for the first value, `most` for the second, and any number below it for the others. After so many they
+// come again, unless that is 0.
 pub struct Values {
     pub smallest: u64,
     pub most: u64,
-    pub mask: u64,
     pub shift: u64,
+    pub again: u64,
 }
 
-// 2^63: the value 0. A value v stands as v + 2^63 beside the value itself.
+// Values of one kind to index 16383, of another to 32767, and of a third from there on: the runs of edition 3.
+pub struct Kinds {
+    pub first: Values,
+    pub second: Values,
+    pub third: Values,
+}
+
+// 2^63: the value 0. A value v stands as v + 2^63.
 pub const ZERO: u64 = 9223372036854775808;
 
 pub fn run_of(first: u64, gap: u64, count: u64) -> Run {
@@ -31,12 +39,31 @@ pub fn run_of(first: u64, gap: u64, count: u64) -> Run {
 }
 
 // The ids of one run.
-pub fn one(low: Run) -> Runs {
+pub fn one(first: u64, gap: u64, count: u64) -> Runs {
     let none = run_of(0, 0, 0);
     Runs {
-        low,
+        low: run_of(first, gap, count),
         middle: none,
         high: none,
+    }
+}
+
+// Values of a width and a shift, from the smallest on.
+pub fn kind(smallest: u64, most: u64, shift: u64) -> Values {
+    Values {
+        smallest,
+        most,
+        shift,
+        again: 0,
+    }
+}
+
+// Values of one kind.
+pub fn all(v: Values) -> Kinds {
+    Kinds {
+        first: v,
+        second: v,
+        third: v,
     }
 }
 
@@ -47,33 +74,10 @@ fn random(x: u64) -> u64 {
     b ^ (b << 17)
 }
 
-// x - 2^63.
-fn signed_of(x: u64) -> i64 {
-    if x < ZERO {
-        !((ZERO - 1 - x) as i64)
-    } else {
-        (x - ZERO) as i64
-    }
-}
-
 fn put_id(ids: &mut [u32], i: u64, x: u64) {
     let at = i as usize;
     if at < ids.len() {
         ids[at] = (x % 4294967296) as u32;
-    }
-}
-
-fn put_value(values: &mut [u64], i: u64, x: u64) {
-    let at = i as usize;
-    if at < values.len() {
-        values[at] = x;
-    }
-}
-
-fn put_signed(values: &mut [i64], i: u64, x: i64) {
-    let at = i as usize;
-    if at < values.len() {
-        values[at] = x;
     }
 }
 
@@ -94,84 +98,69 @@ pub fn fill_ids(ids: &mut [u32], r: Runs) -> u64 {
     fill_run(ids, n, r.high)
 }
 
-fn value_of(v: Values, i: u64, x: u64) -> u64 {
+fn rest(x: u64, y: u64) -> u64 {
+    if y == 0 { 0 } else { x % y }
+}
+
+// Value i of a kind.
+fn value_of(v: Values, i: u64) -> u64 {
+    let i = if v.again == 0 { i } else { i % v.again };
     let stored = match i {
         0 => 0,
         1 => v.most,
-        _ => x & v.mask,
+        _ => rest(random(random(random(i))), v.most),
     };
     wrapping_add_u64(v.smallest, stored << (v.shift % 64))
 }
 
-// Puts n values from an index on, without sign and signed.
-pub fn fill_values(values: &mut [u64], signed: &mut [i64], first: u64, n: u64, v: Values) {
-    let mut x = 88172645463325252;
-    for i in 0..n {
-        x = random(x);
-        let at = wrapping_add_u64(first, i);
-        let value = value_of(v, i, x);
-        put_value(values, at, value);
-        put_signed(signed, at, signed_of(value));
+fn value_at(k: Kinds, i: u64) -> u64 {
+    match i / 16384 {
+        0 => value_of(k.first, i),
+        1 => value_of(k.second, i % 16384),
+        _ => value_of(k.third, i % 16384),
     }
 }
 
-// Puts n values, so many of them different, over and over in an order that does not ascend.
-pub fn fill_few(values: &mut [u64], signed: &mut [i64], n: u64, distinct: u64) {
-    let mut k = 0;
-    for i in 0..n {
-        let value = random(random(wrapping_add_u64(k, 1)));
-        put_value(values, i, value);
-        put_signed(signed, i, signed_of(value));
-        k = wrapping_add_u64(k, 1);
-        if k >= distinct {
-            k = 0;
-        }
+// Fills the list with values.
+pub fn fill_values(values: &mut [u64], k: Kinds) {
+    for i in 0..values.len() {
+        values[i] = value_at(k, i as u64);
     }
 }
 
-fn put(out: &mut [u8], i: u64, x: u64) {
-    let at = i as usize;
-    if at < out.len() {
-        out[at] = (x % 256) as u8;
+// x - 2^63.
+fn signed_of(x: u64) -> i64 {
+    if x < ZERO {
+        !((ZERO - 1 - x) as i64)
+    } else {
+        (x - ZERO) as i64
     }
 }
 
-pub fn put_byte(out: &mut [u8], at: usize, x: u8) {
-    if at < out.len() {
-        out[at] = x;
+// Puts the values themselves, as many as there is room for.
+pub fn sign(signed: &mut [i64], values: &[u64]) {
+    if values.len() > signed.len() {
+        return;
+    }
+    for i in 0..values.len() {
+        signed[i] = signed_of(values[i]);
     }
 }
 
-// Puts these bytes at the front.
-pub fn copy(out: &mut [u8], bytes: &[u8]) {
-    for i in 0..bytes.len() {
-        put_byte(out, i, bytes[i]);
+// Fills the bytes so that they differ from place to place.
+pub fn paint(out: &mut [u8]) {
+    for i in 0..out.len() {
+        out[i] = (5 + i % 251) as u8;
     }
 }
 
-// Puts bytes that differ from place to place into the first n.
-pub fn paint(out: &mut [u8], n: u64) {
-    for i in 0..n {
-        put(out, i, 90 + i % 251);
-    }
-}
-
-// Is there a byte i in both, and the same?
-fn same_at(a: &[u8], b: &[u8], i: u64) -> bool {
-    let at = i as usize;
-    if at >= a.len() {
+// Does b start with a?
+pub fn starts(a: &[u8], b: &[u8]) -> bool {
+    if a.len() > b.len() {
         return false;
     }
-    if at >= b.len() {
-        return false;
-    }
-    a[at] == b[at]
-}
-
-// Are the first n bytes there in both, and the same?
-pub fn same(a: &[u8], b: &[u8], n: u64) -> bool {
-    for i in 0..n {
-        if !same_at(a, b, i) {
+    for i in 0..a.len() {
+        if a[i] != b[i] {
             return false;
         }
     }

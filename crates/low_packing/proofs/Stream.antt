@@ -3,8 +3,8 @@ use Rattle.format.specs.Kit.{_≡_, sym, ap, ap₂, _∙_, List, ℕ, zero, suc
 use Rattle.format.specs.Kit.{mod-eq-of-lt, mod-lt, arith, getD, bitOr, or-shifted, digits-lt, high, low, field, mod-mod-pow, mod-pow-add, pow-add, pow-pos}
 use Rattle.format.specs.Kit.{mul-suc, shl-shr, shr-shr}
 use Rattle.format.specs.BitsLow.{gatherLow}
-use Rattle.format.proofs.BitsLow.{low-add, low-small, low-zero, low-part}
-use Rattle.format.proofs.Cases.{below-or}
+use Rattle.laws.proofs.BitsLow.{low-add, low-small, low-zero, low-part}
+use Rattle.laws.proofs.Cases.{below-or}
 use Rattle.packing.specs.declared.Pending.{Pending}
 use Rattle.packing.specs.Stream.{Stored, Held}
 use Rattle.packing.specs.Turned.{turned}

@@ -3,7 +3,7 @@ use Rattle.format.specs.Kit.{_≡_, refl, ap, _∙_, List, ℕ, zero, suc, _+_,
 use Rattle.format.specs.Kit.{ap₂, sym, drop, le-refl, take-all, shr-shr, high, low, shl-lt, lt-of-lt-of-le, pow-mono, mod-eq-of-lt, bitOr}
 use Rattle.format.specs.Bytes.{lowAt, fromLow, fromDigits}
 use Rattle.format.specs.BitsLow.{bitLow, bitLowAt, gatherLow}
-use Rattle.format.proofs.BitsLow.{low-add, low-small, low-part, low-lt, low-whole}
+use Rattle.laws.proofs.BitsLow.{low-add, low-small, low-part, low-lt, low-whole}
 use Rattle.packing.proofs.Swap.{front}
 use Rattle.packing.proofs.Touched.{or-ends}
 

@@ -4,11 +4,11 @@ use types.Run.{OneOf}
 use denote.Enum.Declared.{tagOf}
 use Rattle.format.specs.Limits.{maxId}
 use Rattle.format.specs.Refusals.{Outcome, done, refused, BROKEN}
-use Rattle.format.specs.Replies.{candidateOf}
+use Rattle.answers.specs.Replies.{candidateOf}
 use Rattle.format.specs.Opening.{Opened}
 use Rattle.format.specs.Next as Nx
 use Rattle.format.specs.Next.{candidateAt, noCandidate, lastAfter}
-use Rattle.format.specs.declared.Next.{Next}
+use Rattle.answers.specs.declared.Next.{Next}
 use Rattle.lookup.specs.declared.Ask.{Ask}
 use Rattle.lookup.specs.Steps.{Asked}
 use Rattle.next.specs.Blocks.{AskedOf, reached, sumOf, Told}

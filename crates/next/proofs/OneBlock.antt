@@ -8,7 +8,7 @@ use Rattle.format.specs.Ids.{dataBytes}
 use Rattle.format.specs.Opening.{Opened, idPart, valueOf}
 use Rattle.format.specs.LookUp.{Look, found, absent, Place, inside, nowhere, broken, scanned, placeAt, answer, steps}
 use Rattle.format.specs.Next.{Candidate, candidateAt, decides, inTurn}
-use Rattle.format.proofs.InTurn.{all-absent, refused-first}
+use Rattle.laws.proofs.InTurn.{all-absent, refused-first}
 use Rattle.blocks.specs.declared.Block.{Block}
 use Rattle.lookup.specs.declared.Ask.{Ask}
 use Rattle.lookup.specs.declared.Entry.{Entry}

@@ -5,8 +5,8 @@ use Rattle.format.specs.Refusals.{Outcome, done}
 use Rattle.format.specs.Bytes.{lowAt}
 use Rattle.format.specs.LookUp.{Look, absent, entryAt}
 use Rattle.format.specs.Next.{noCandidate, inTurn}
-use Rattle.format.proofs.Cases.{equal-or}
-use Rattle.format.proofs.InTurn.{apart, all-absent}
+use Rattle.laws.proofs.Cases.{equal-or}
+use Rattle.laws.proofs.InTurn.{apart, all-absent}
 use Rattle.lookup.specs.declared.Ask.{Ask}
 use Rattle.lookup.specs.declared.Entry.{Entry}
 use Rattle.lookup.specs.Steps.{Jumped, atBlock}

@@ -6,7 +6,7 @@ use Rattle.format.specs.Limits.{maxId}
 use Rattle.format.specs.Refusals.{done}
 use Rattle.format.specs.Opening.{Opened, idPart}
 use Rattle.format.specs.Next.{noCandidate, inTurn, nextSteps}
-use Rattle.format.proofs.InTurn.{apart}
+use Rattle.laws.proofs.InTurn.{apart}
 use Rattle.lookup.specs.declared.Ask.{Ask}
 use Rattle.next.specs.Blocks.{AskedOf, BlockAs, WalkedAs}
 use Rattle.next.specs.declared.Met as Me

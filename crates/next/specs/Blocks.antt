@@ -2,12 +2,12 @@
 use Rattle.format.specs.Kit.{ℕ, _+_, _-_, _*_, _≤_, _<_, _≡_, cond, List, eqb}
 use Rattle.format.specs.Limits.{maxId, maxBlock, blockPlaces}
 use Rattle.format.specs.Refusals.{Outcome, done, refused, andThen, given, BROKEN}
-use Rattle.format.specs.Replies.{candidateOf}
+use Rattle.answers.specs.Replies.{candidateOf}
 use Rattle.format.specs.Opening.{Opened, idPart, valueOf}
 use Rattle.format.specs.LookUp.{absent, entriesAt, scanned, steps}
 use Rattle.format.specs.Next as Nx
 use Rattle.format.specs.Next.{candidateAt, noCandidate, inTurn, nextSteps, lastAfter}
-use Rattle.format.specs.declared.Next.{Next}
+use Rattle.answers.specs.declared.Next.{Next}
 use Rattle.lookup.specs.declared.Ask.{Ask}
 use Rattle.next.specs.declared.Met as Me
 use Rattle.next.specs.declared.Sum.{Sum}

@@ -4,8 +4,8 @@ use Rattle.format.specs.Kit.{eq-eqb, ne-eqb, lt-ltb, le-ltb}
 use Rattle.format.specs.Bytes.{lowAt}
 use Rattle.format.specs.IdsRead.{shorts}
 use Rattle.format.specs.LookUp.{scan, inSparse}
-use Rattle.format.proofs.Cases.{below-or}
-use Rattle.format.proofs.Standing.{short-next}
+use Rattle.laws.proofs.Cases.{below-or}
+use Rattle.laws.proofs.Standing.{short-next}
 use Rattle.next_in_block.specs.First.{meets, meetsNone, meetsBy, firstIn, scanAt, entryIn, Below, FirstEntry}
 use Rattle.next_in_block.proofs.Run.{first-is, none-is}
 

@@ -3,7 +3,7 @@ use Rattle.format.specs.Kit.{_≡_, _∙_, List, ℕ, _+_, _-_, _*_, _/_, _%_, 
 use Rattle.format.specs.Bytes.{lowAt}
 use Rattle.format.specs.Ids.{rankBytes}
 use Rattle.format.specs.LookUp.{nowhere, denseAt}
-use Rattle.format.proofs.Cases.{below-or}
+use Rattle.laws.proofs.Cases.{below-or}
 use Rattle.in_block.proofs.Bitmap.{dense-clear, dense-set, dense-broken}
 use Rattle.next_in_block.specs.First.{meets, meetsNone, fails, meetsBy, firstIn, bitIn, innerIn, FirstOne, FirstBit}
 use Rattle.next_in_block.proofs.Run.{first-is, none-is}

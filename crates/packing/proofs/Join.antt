@@ -2,7 +2,7 @@
 use Rattle.format.specs.Kit.{_≡_, sym, ap, _∙_, List, ℕ, _+_, _-_, _*_, _/_, _%_, _^_, _≤_, _<_, mul-le-mul-right, add-mul, one-mul, arith, getD}
 use Rattle.format.specs.Kit.{shr-shr, shl-shr, field, mod-mod-pow}
 use Rattle.format.specs.Bits.{bitOf, bitAt, gather}
-use Rattle.format.proofs.Bits.{gather-whole, gather-part, bitAt-lt}
+use Rattle.laws.proofs.Bits.{gather-whole, gather-part, bitAt-lt}
 
 -- one byte
 pub byte-gather : (s : List ℕ) (b : ℕ) → getD s b 0 < 256 → getD s b 0 ≡ gather (bitAt s) (b * 8) 8

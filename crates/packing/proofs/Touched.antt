@@ -3,7 +3,7 @@ use Rattle.format.specs.Kit.{_≡_, sym, ap, ap₂, _∙_, subst, ℕ, zero, su
 use Rattle.format.specs.Kit.{mul-one, mul-assoc, add-mul, div-one, div-eq-of-lt, mod-one, mod-lt, mod-eq-of-lt, lt-of-lt-of-le, pow-add, pow-pos, pow-mono}
 use Rattle.format.specs.Kit.{mod-pow-add, high, low, split, shl-lt, shl-shr, shr-shr, bitOr, or-block, or-self, or-zero-r}
 use Rattle.format.specs.Bits.{gather, bitBytes}
-use Rattle.format.proofs.Bits.{gather-add, gather-lt}
+use Rattle.laws.proofs.Bits.{gather-add, gather-lt}
 
 -- ---- a number by its ends
 

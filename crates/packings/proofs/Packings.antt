@@ -4,13 +4,13 @@ use Rattle.format.specs.Bits.{tabulate, packed}
 use Rattle.format.specs.BitsLow.{packedLow}
 use Rattle.format.specs.Values.{bitsIn, bitLength}
 use Rattle.format.specs.Editions.{highFirst, luceneWidths, firstEnough, lowFirst}
-use Rattle.format.proofs.Cases.{below-or}
-use Rattle.format.proofs.Values.{bit-length, bit-length-le}
-use Rattle.format.proofs.Orders.{fetched-small}
-use Rattle.format.proofs.Bits.{highOrder}
-use Rattle.format.proofs.BitsLow.{lowOrder}
-use Rattle.format.proofs.Scaled.{Sound}
-use Rattle.format.proofs.Editions.{high-first-sound, low-first-sound}
+use Rattle.laws.proofs.Cases.{below-or}
+use Rattle.laws.proofs.Values.{bit-length, bit-length-le}
+use Rattle.laws.proofs.Orders.{fetched-small}
+use Rattle.laws.proofs.Bits.{highOrder}
+use Rattle.laws.proofs.BitsLow.{lowOrder}
+use Rattle.laws.proofs.Scaled.{Sound}
+use Rattle.laws.proofs.Editions.{high-first-sound, low-first-sound}
 use Rattle.packings.specs.declared.Order as Od
 use Rattle.packings.specs.Packings.{packingOf, narrowerBy, gatherBy, Reach}
 use Rattle.packings.proofs.Widths.{in-eight, before-too-few, after-before}

@@ -2,11 +2,11 @@
 use Rattle.format.specs.Kit.{_≡_, sym, ap, _∙_, true, List, ℕ, _+_, _-_, _*_, _/_, _%_, _^_, _<_, _≤_, div-one, zero-div, zero-mod, mod-eq-of-lt, arith}
 use Rattle.format.specs.Kit.{length, getD, List·getD-eq-default, shr-lt, eqb-true, eq-eqb}
 use Rattle.format.specs.Bits.{bitBytes}
-use Rattle.format.proofs.Cases.{below-or}
-use Rattle.format.proofs.Bits.{highOrder, gather-in}
-use Rattle.format.proofs.BitsLow.{lowOrder, low-in}
-use Rattle.format.proofs.Orders.{bits-past}
-use Rattle.format.proofs.Editions.{high-first-sound, low-first-sound}
+use Rattle.laws.proofs.Cases.{below-or}
+use Rattle.laws.proofs.Bits.{highOrder, gather-in}
+use Rattle.laws.proofs.BitsLow.{lowOrder, low-in}
+use Rattle.laws.proofs.Orders.{bits-past}
+use Rattle.laws.proofs.Editions.{high-first-sound, low-first-sound}
 use Rattle.packings.specs.declared.Order as Od
 use Rattle.packings.specs.Packings.{lastBits, spareOk}
 use Rattle.packings.proofs.Packings.{soundOf}

@@ -4,10 +4,10 @@ use Rattle.format.specs.Kit.{_≡_, refl, sym, _∙_, Bool, true, false, not, _
 use Rattle.format.specs.Kit.{eqb-true, leb-true, le-leb, ltb-true, lt-ltb, lt-of-lt-of-le, pow-mono}
 use Rattle.format.specs.Values.{bitLength}
 use Rattle.format.specs.Editions.{luceneWidths, firstEnough, among}
-use Rattle.format.proofs.Cases.{below-or, equal-or}
-use Rattle.format.proofs.Tests.{both-true}
-use Rattle.format.proofs.Values.{bit-length, bit-length-le}
-use Rattle.format.proofs.Widths.{each, among-passes, one-least, lucene-least}
+use Rattle.laws.proofs.Cases.{below-or, equal-or}
+use Rattle.laws.proofs.Tests.{both-true}
+use Rattle.laws.proofs.Values.{bit-length, bit-length-le}
+use Rattle.laws.proofs.Widths.{each, among-passes, one-least, lucene-least}
 use Rattle.packings.specs.Packings.{listedFrom, listedBefore}
 
 -- ---- tests

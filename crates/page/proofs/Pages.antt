@@ -5,12 +5,12 @@ use Rattle.format.specs.Refusals.{Outcome, done, refused, BUFFER}
 use Rattle.format.specs.Editions.{editions}
 use Rattle.format.specs.LookUp.{Look, lookUp}
 use Rattle.format.specs.Page.{placeKind, placeOrdinal, placeValue, page, pageWords, pageReply, pageAfter}
-use Rattle.format.specs.Replies.{refusalNumber, replyOf}
-use Rattle.format.specs.declared.Reply as Rp
-use Rattle.format.specs.declared.Refusal as Re
+use Rattle.answers.specs.Replies.{refusalNumber, replyOf}
+use Rattle.answers.specs.declared.Reply as Rp
+use Rattle.answers.specs.declared.Refusal as Re
 use Rattle.format.specs.Stores.{Fill}
-use Rattle.format.proofs.Stores.{begun, part-more, filled}
-use Rattle.format.proofs.Paged.{enough, stored}
+use Rattle.laws.proofs.Stores.{begun, part-more, filled}
+use Rattle.laws.proofs.Paged.{enough, stored}
 use Rattle.page.specs.Placed.{Holds, Stored, Room, Paged}
 use Rattle.page.specs.declared.Held.{Held}
 

@@ -1,7 +1,7 @@
 -- Blocks that steps 1 to 4 gave, kept in sixteen slots with their numbers. Assumes nothing.
 use Rattle.format.specs.Kit.{_≡_, _∙_, subst, List, ℕ, _<_, arith, length, getD, set, replicate, length-set, getD-replicate, getD-set-same, getD-set-other}
 use Rattle.format.specs.Opening.{Opened}
-use Rattle.format.proofs.Cases.{equal-or}
+use Rattle.laws.proofs.Cases.{equal-or}
 use Rattle.lookup.specs.declared.Step as St
 use Rattle.page.specs.Marks.{BlockIs}
 

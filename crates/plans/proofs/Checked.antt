@@ -6,9 +6,9 @@ use Rattle.format.specs.Pairs.{Each, Fits}
 use Rattle.format.specs.Editions.{plain, codec}
 use Rattle.format.specs.Table.{tableOf, codeIn, ascends, isIn, allIn, tableOk}
 use Rattle.format.specs.Plan.{planOk, planOf, planned}
-use Rattle.format.proofs.Cases.{true-or, below-or}
-use Rattle.format.proofs.Ascending.{In, in-at, coded, each-all, table-ascends, table-has, table-only}
-use Rattle.format.proofs.Plans.{shorter-by-table}
+use Rattle.laws.proofs.Cases.{true-or, below-or}
+use Rattle.laws.proofs.Ascending.{In, in-at, coded, each-all, table-ascends, table-has, table-only}
+use Rattle.laws.proofs.Plans.{shorter-by-table}
 use Rattle.tables.specs.Holds.{Stands, Holds}
 use Rattle.tables.specs.Marks.{marked}
 use Rattle.plans.specs.Saves.{saves}

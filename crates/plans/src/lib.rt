@@ -9,12 +9,12 @@ ghost use Rattle.format.specs.Pairs.{Each, Fits};
 ghost use Rattle.format.specs.Table.{codeIn, ascends, allIn, valueShare};
 ghost use Rattle.format.specs.Plan.{planOk, planned, plan};
 ghost use Rattle.format.specs.Writer.{writeReply, writeOut};
-ghost use Rattle.format.specs.Replies.{fieldsOf, replyOf};
+ghost use Rattle.answers.specs.Replies.{fieldsOf, replyOf};
 ghost use Rattle.tables.specs.Marks.{marked};
 ghost use Rattle.plans.specs.Saves.{saves};
-use format::Fields;
-use format::Refusal;
-use format::Reply;
+use answers::Fields;
+use answers::Refusal;
+use answers::Reply;
 use packings::Order;
 
 // The most entries of a table.

@@ -5,9 +5,9 @@ use Rattle.format.specs.Pairs.{Pairs}
 use Rattle.format.specs.Editions.{editions}
 use Rattle.format.specs.Opening.{Opened, openColumn}
 use Rattle.format.specs.Check.{accepted, reading, readReply, idsAfter, valuesAfter}
-use Rattle.format.specs.Replies.{replyOf}
-use Rattle.format.specs.declared.Reply as Rp
-use Rattle.format.proofs.Unique.{OnlyBy, accepted-only}
+use Rattle.answers.specs.Replies.{replyOf}
+use Rattle.answers.specs.declared.Reply as Rp
+use Rattle.laws.proofs.Unique.{OnlyBy, accepted-only}
 use Rattle.checking.specs.Tests.{isTaken}
 use Rattle.reader.specs.Answered.{Answered, Whole}
 use Rattle.reader.proofs.Decoded.{Decoded}

@@ -9,9 +9,9 @@ use Rattle.format.specs.Column.{Head}
 use Rattle.format.specs.Opening.{Opened, idPart, valuePart}
 use Rattle.format.specs.Rules.{Sound}
 use Rattle.format.specs.Check.{allValues, accepted, idsAfter, valuesAfter}
-use Rattle.format.proofs.Open.{sound}
-use Rattle.format.proofs.Editions.{lawful, lawful-reader}
-use Rattle.format.proofs.Halves.{halves-accepted, accepted-halves, values-decoded, kept}
+use Rattle.laws.proofs.Open.{sound}
+use Rattle.laws.proofs.Editions.{lawful, lawful-reader}
+use Rattle.laws.proofs.Halves.{halves-accepted, accepted-halves, values-decoded, kept}
 use Rattle.judge.proofs.LowFirst.{judge-complete, section-decoded}
 use Rattle.id_reader.specs.Placed.{Accepted}
 use Rattle.reader.specs.Answered.{Whole}

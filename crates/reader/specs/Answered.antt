@@ -5,8 +5,8 @@ use Rattle.format.specs.Pairs.{Pairs}
 use Rattle.format.specs.Editions.{editions}
 use Rattle.format.specs.Opening.{Opened, openColumn}
 use Rattle.format.specs.Check.{accepted, readReply, idsAfter, valuesAfter}
-use Rattle.format.specs.Replies.{replyOf}
-use Rattle.format.specs.declared.Reply.{Reply}
+use Rattle.answers.specs.Replies.{replyOf}
+use Rattle.answers.specs.declared.Reply.{Reply}
 
 -- buffers of ids and values before, and after
 pub record Answered (o : Outcome Pairs) (r : Reply) (ids ids′ : List ℕ) (vs vs′ : List ℤ) : Type 0 where

@@ -6,13 +6,13 @@ ghost use Rattle.format.specs.Refusals.{done};
 ghost use Rattle.format.specs.Editions.{editions};
 ghost use Rattle.format.specs.Opening.{openColumn};
 ghost use Rattle.format.specs.Check.{accepted, reading, readReply, idsAfter, valuesAfter};
-ghost use Rattle.format.specs.Replies.{replyOf};
+ghost use Rattle.answers.specs.Replies.{replyOf};
 ghost use Rattle.column.specs.Opened.{columnOf};
 ghost use Rattle.reader.specs.Answered.{Answered, Whole};
+use answers::Refusal;
+use answers::Reply;
 use column::Column;
 use column::Opening;
-use format::Refusal;
-use format::Reply;
 use numbers::size;
 
 // The ids of an accepted column, into a buffer that has room for them.

@@ -1,6 +1,5 @@
 // Places of a list, read and put one by one. A put answers with the place after it; past the end of the bytes it puts nothing, so
 // that the same functions, run on no bytes, tell how many they put.
-use std::num::wrapping_add_u64;
 
 // What a place past the end of the ids reads as.
 const NO_ID: u64 = 18446744073709551615;
@@ -9,11 +8,16 @@ const NO_ID: u64 = 18446744073709551615;
 pub const ZERO: u64 = 9223372036854775808;
 
 pub fn plus(a: u64, b: u64) -> u64 {
-    wrapping_add_u64(a, b)
+    std::num::wrapping_add_u64(a, b)
 }
 
 pub fn minus(a: u64, b: u64) -> u64 {
     std::num::wrapping_sub_u64(a, b)
+}
+
+// n times w, for n below 2^32 and w below 128.
+pub fn times(n: u64, w: u64) -> u64 {
+    (n % 4294967296) * (w % 128)
 }
 
 fn wide(x: u8) -> u64 {
@@ -48,25 +52,18 @@ fn store(out: &mut [u8], at: u64, x: u64) {
 
 pub fn put(out: &mut [u8], at: u64, x: u64) -> u64 {
     store(out, at, x);
-    wrapping_add_u64(at, 1)
+    plus(at, 1)
 }
 
-// Two bytes, low byte first.
-pub fn put_short(out: &mut [u8], at: u64, x: u64) -> u64 {
-    let next = put(out, at, x);
-    put(out, next, x / 256)
-}
-
-// Four bytes, low byte first.
-pub fn put_int(out: &mut [u8], at: u64, x: u64) -> u64 {
-    let next = put_short(out, at, x);
-    put_short(out, next, x / 65536)
-}
-
-// Eight bytes, low byte first.
-pub fn put_long(out: &mut [u8], at: u64, x: u64) -> u64 {
-    let next = put_int(out, at, x);
-    put_int(out, next, x / 4294967296)
+// So many bytes, the low one first.
+pub fn put_low(out: &mut [u8], at: u64, bytes: u64, x: u64) -> u64 {
+    let mut left = x;
+    let mut next = at;
+    for k in 0..bytes {
+        next = put(out, next, left);
+        left /= 256;
+    }
+    next
 }
 
 // Bit k of x, bit 0 the lowest.

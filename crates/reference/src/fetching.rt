@@ -19,7 +19,7 @@ fn with_bit(x: Fetched, s: &[u8], j: u64, first: bool) -> Fetched {
 }
 
 pub fn number(s: &[u8], w: u64, i: u64) -> Fetched {
-    let from = super::times(i, w);
+    let from = bytes::times(i, w);
     let mut x = Fetched {
         number: 0,
         bytes: 0,

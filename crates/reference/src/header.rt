@@ -23,6 +23,13 @@ fn put_number(out: &mut [u8], at: u64, x: u64) -> u64 {
     put(out, next, left)
 }
 
+fn put_values(out: &mut [u8], at: u64, f: Fields) -> u64 {
+    let at = put_number(out, at, f.width);
+    let at = put_number(out, at, f.smallest);
+    let at = put_number(out, at, f.divisor);
+    put_number(out, at, f.value_bytes)
+}
+
 // Puts the header, and answers with the place after it.
 pub fn put_header(out: &mut [u8], f: Fields) -> u64 {
     let at = put_number(out, 0, f.edition);
@@ -30,8 +37,5 @@ pub fn put_header(out: &mut [u8], f: Fields) -> u64 {
     let at = put_number(out, at, f.power);
     let at = put_number(out, at, f.id_bytes);
     let at = put_number(out, at, f.jumps);
-    let at = put_number(out, at, f.width);
-    let at = put_number(out, at, f.smallest);
-    let at = put_number(out, at, f.divisor);
-    put_number(out, at, f.value_bytes)
+    put_values(out, at, f)
 }

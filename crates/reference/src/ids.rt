@@ -3,8 +3,7 @@ use super::bytes;
 use super::bytes::minus;
 use super::bytes::plus;
 use super::bytes::put;
-use super::bytes::put_int;
-use super::bytes::put_short;
+use super::bytes::put_low;
 
 // Where a section goes: its start, where its jump entries stand and how many, and its rank power.
 pub struct Section {
@@ -87,12 +86,6 @@ fn put_dense(out: &mut [u8], b: Block, x: u64, rank: u64, listed: bool) {
     bytes::put_bit(out, plus(words, x / 8), x % 8 == 0, x % 8, one);
 }
 
-fn put_sparse(out: &mut [u8], b: Block, x: u64, rank: u64, listed: bool) {
-    if listed {
-        put_short(out, plus(b.at, plus(rank, rank)), x);
-    }
-}
-
 // Place x, which the id at index i has or a later place. Answers with the index of the next id after it.
 fn put_place(out: &mut [u8], ids: &[u32], b: Block, x: u64, i: u64) -> u64 {
     let listed = bytes::id(ids, i) == plus(b.first, x);
@@ -102,7 +95,10 @@ fn put_place(out: &mut [u8], ids: &[u32], b: Block, x: u64, i: u64) -> u64 {
         put_dense(out, b, x, rank, listed);
         return next;
     }
-    put_sparse(out, b, x, rank, listed);
+    if listed {
+        put_low(out, plus(b.at, plus(rank, rank)), 2, x);
+        return next;
+    }
     next
 }
 
@@ -127,23 +123,23 @@ fn count_of(ids: &[u32], first: u64, before: u64) -> u64 {
     minus(put_places(&mut [0u8; 0], ids, b), before)
 }
 
-// Puts the data of a block of that many ids; a full one has none.
-fn put_data(out: &mut [u8], ids: &[u32], b: Block, count: u64) {
-    if count < 65536 {
-        put_places(out, ids, b);
-    }
-}
-
-// Puts a block that has an id.
+// Puts a block that has an id. A full one has no data.
 fn put_block(out: &mut [u8], s: Section, ids: &[u32], number: u64, next: Next) -> Next {
     let first = number << 16;
     let before = next.before;
     let power = s.power;
     let count = count_of(ids, first, before);
-    let at = put_short(out, plus(s.base, next.start), number);
-    let at = put_short(out, at, minus(count, 1));
+    let after = Next {
+        start: plus(next.start, plus(4, data_bytes(count, power))),
+        before: plus(before, count),
+    };
+    let at = put_low(out, plus(s.base, next.start), 2, number);
+    let at = put_low(out, at, 2, minus(count, 1));
+    if count > 65535 {
+        return after;
+    }
     let dense = count > 4095;
-    put_data(
+    put_places(
         out,
         ids,
         Block {
@@ -153,18 +149,14 @@ fn put_block(out: &mut [u8], s: Section, ids: &[u32], number: u64, next: Next) -
             dense,
             power,
         },
-        count,
     );
-    Next {
-        start: plus(next.start, plus(4, data_bytes(count, power))),
-        before: plus(before, count),
-    }
+    after
 }
 
 fn put_entry(out: &mut [u8], s: Section, number: u64, next: Next) {
     if s.jumps > 0 {
-        let at = put_int(out, plus(s.table, number << 3), next.before);
-        put_int(out, at, next.start);
+        let at = put_low(out, plus(s.table, number << 3), 4, next.before);
+        put_low(out, at, 4, next.start);
     }
 }
 
@@ -177,7 +169,7 @@ fn put_numbered(out: &mut [u8], s: Section, ids: &[u32], number: u64, next: Next
     put_block(out, s, ids, number, next)
 }
 
-// Puts the blocks, the end block and the jump entries, and answers with where the end block starts.
+// Puts the blocks, the end block and the jump entries, and answers with the bytes of the blocks and the end block.
 pub fn put_section(out: &mut [u8], s: Section, ids: &[u32]) -> u64 {
     let mut next = Next {
         start: 0,
@@ -188,8 +180,18 @@ pub fn put_section(out: &mut [u8], s: Section, ids: &[u32]) -> u64 {
         next = put_numbered(out, s, ids, number, next);
     }
     put_entry(out, s, end, next);
-    let at = put_short(out, plus(s.base, next.start), 32767);
-    let at = put_short(out, at, 0);
-    put_short(out, at, 65535);
-    next.start
+    // Number 32767, count 1 and the place 65535.
+    put_low(out, plus(s.base, next.start), 6, 0xFFFF00007FFF);
+    plus(next.start, 6)
+}
+
+// Those bytes, put nowhere.
+pub fn section_bytes(ids: &[u32], power: u64) -> u64 {
+    let s = Section {
+        base: 0,
+        table: 0,
+        jumps: 0,
+        power,
+    };
+    put_section(&mut [0u8; 0], s, ids)
 }

@@ -14,11 +14,11 @@ struct Section {
     divisor: u64,
 }
 
-// A value in two's complement, which is 2^63 from how it stands here, modulo 2^64; and so both of a run's, its start and its width.
+// A run's smallest and greatest value in two's complement, which is 2^63 from how they stand here, modulo 2^64, its start and its width.
 fn put_entry(out: &mut [u8], at: u64, f: Facts, start: u64) {
-    let at = bytes::put_long(out, at, plus(f.smallest, ZERO));
-    let at = bytes::put_long(out, at, plus(f.greatest, ZERO));
-    let at = bytes::put_long(out, at, start);
+    let at = bytes::put_low(out, at, 8, plus(f.smallest, ZERO));
+    let at = bytes::put_low(out, at, 8, plus(f.greatest, ZERO));
+    let at = bytes::put_low(out, at, 8, start);
     bytes::put(out, at, f.width);
 }
 
@@ -26,17 +26,19 @@ fn put_entry(out: &mut [u8], at: u64, f: Facts, start: u64) {
 fn put_run(out: &mut [u8], s: Section, values: &[u64], k: u64, start: u64) -> u64 {
     let first = k << 14;
     let end = super::lesser(plus(first, 16384), values.len() as u64);
-    let f = values::facts_in(values, first, end, s.divisor);
-    put_entry(out, plus(s.directory, super::times(k, 25)), f, start);
-    let bits = super::times(minus(end, first), f.width);
-    values::put_values(out, plus(s.runs, start), values, f, bits);
-    plus(start, plus(bits, 7) / 8)
+    let f = values::facts_of(values, 3, first, end, s.divisor);
+    put_entry(out, plus(s.directory, bytes::times(k, 25)), f, start);
+    let count = minus(end, first);
+    plus(
+        start,
+        values::put_values(out, plus(s.runs, start), values, &[0u64; 0], f, count),
+    )
 }
 
 // Puts the section, and answers with its bytes.
 pub fn put_section(out: &mut [u8], base: u64, values: &[u64], divisor: u64) -> u64 {
     let count = plus(values.len() as u64, 16383) / 16384;
-    let directory = super::times(count, 25);
+    let directory = bytes::times(count, 25);
     let s = Section {
         directory: base,
         runs: plus(base, directory),

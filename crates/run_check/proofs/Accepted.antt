@@ -9,14 +9,14 @@ use Rattle.format.specs.Codec.{Fields}
 use Rattle.format.specs.ValueRuns.{runLength, runCount, directoryLength, runsIn, runsOf, Summary, summaryAt, summaryOf, summaries, summaryBytes, runSection}
 use Rattle.format.specs.ValueRuns.{inRuns}
 use Rattle.format.specs.Editions.{runs, codec}
-use Rattle.format.proofs.Digits.{below-drop}
-use Rattle.format.proofs.Values.{divides-each}
-use Rattle.format.proofs.Bounds.{divisor-is}
-use Rattle.format.proofs.Lawful.{Storable}
-use Rattle.format.proofs.ValueRuns.{RunAt, run-divides, rest-is}
-use Rattle.format.proofs.InRuns.{runs-count, its-run, run-each, run-here}
-use Rattle.format.proofs.Editions.{runs-takes, runs-fields, runs-section}
-use Rattle.format.proofs.Halves.{ValuesOf, Kept, Tested}
+use Rattle.laws.proofs.Digits.{below-drop}
+use Rattle.laws.proofs.Values.{divides-each}
+use Rattle.laws.proofs.Bounds.{divisor-is}
+use Rattle.laws.proofs.Lawful.{Storable}
+use Rattle.laws.proofs.ValueRuns.{RunAt, run-divides, rest-is}
+use Rattle.laws.proofs.InRuns.{runs-count, its-run, run-each, run-here}
+use Rattle.laws.proofs.Editions.{runs-takes, runs-fields, runs-section}
+use Rattle.laws.proofs.Halves.{ValuesOf, Kept, Tested}
 use Rattle.run_values.proofs.Reached.{Rules, rules-kept}
 use Rattle.run_check.specs.RunsOk.{divisorOk, runsOk, valuesOk}
 use Rattle.run_check.proofs.Divisor.{joined, EachRun, Divided, apartIn, commonIn, runs-divisor, divisor-sound, divisor-complete}

@@ -7,13 +7,13 @@ use Rattle.format.specs.Bits.{packedBytes, packed, unpacked}
 use Rattle.format.specs.Values.{smallest, over, gcdFrom, widthWith, storedWith, valueAt}
 use Rattle.format.specs.Pairs.{Below, Each, Fits}
 use Rattle.format.specs.ValueRuns.{runLength, runCount, Summary, summaryAt, summaryOf, runBytes}
-use Rattle.format.proofs.Tests.{true-both}
-use Rattle.format.proofs.Digits.{below-take, below-drop}
-use Rattle.format.proofs.Bits.{byte-at, unpacked-packed}
-use Rattle.format.proofs.Values.{values-back, length-stored-with, stored-below}
-use Rattle.format.proofs.Pieces.{split-bytes}
-use Rattle.format.proofs.ValueRuns.{runStart, RunAt, length-run, run-narrow}
-use Rattle.format.proofs.Fits.{smallest-fits, greatest-fits}
+use Rattle.laws.proofs.Tests.{true-both}
+use Rattle.laws.proofs.Digits.{below-take, below-drop}
+use Rattle.laws.proofs.Bits.{byte-at, unpacked-packed}
+use Rattle.laws.proofs.Values.{values-back, length-stored-with, stored-below}
+use Rattle.laws.proofs.Pieces.{split-bytes}
+use Rattle.laws.proofs.ValueRuns.{runStart, RunAt, length-run, run-narrow}
+use Rattle.laws.proofs.Fits.{smallest-fits, greatest-fits}
 use Rattle.run_check.specs.RunsOk.{partAt, numbersAt, runOk, divisorOk, runsOk}
 use Rattle.run_check.proofs.Divisor.{apartIn, commonIn}
 use Rattle.run_check.proofs.OneRun.{RunIs, run-complete}

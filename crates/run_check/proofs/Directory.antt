@@ -4,8 +4,8 @@ use Rattle.format.specs.Kit.{drop, length-take-le, length-drop, drop-drop, drop
 use Rattle.format.specs.Bytes.{bytesOf, digits, low, lowAt, twos, untwos}
 use Rattle.format.specs.Pairs.{Below, Fits}
 use Rattle.format.specs.ValueRuns.{Summary, summaryBytes, summaryAt}
-use Rattle.format.proofs.Digits.{below-take, below-drop, digits-from, from-lt}
-use Rattle.format.proofs.Fits.{twos-untwos, untwos-fits}
+use Rattle.laws.proofs.Digits.{below-take, below-drop, digits-from, from-lt}
+use Rattle.laws.proofs.Fits.{twos-untwos, untwos-fits}
 
 -- the summaries of k runs, r and on
 unfoldable pub summariesAt : List ℕ → ℕ → ℕ → List Summary

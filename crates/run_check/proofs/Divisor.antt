@@ -4,10 +4,10 @@ use Rattle.format.specs.Kit.{dvd-antisymm, mul-one, mul-zero, mul-div-cancel', 
 use Rattle.format.specs.Kit.{eq-of-mul-eq-mul-left, ℤ, length, length-append, getD, _&&_, _||_}
 use Rattle.format.specs.Values.{smallest, greatest, over, spread, gcd, gcdFrom, differences, divisor, storedWith}
 use Rattle.format.specs.Pairs.{Each}
-use Rattle.format.proofs.Cases.{equal-or}
-use Rattle.format.proofs.Tests.{both-true, true-both, or-left, or-right}
-use Rattle.format.proofs.Gcd.{gcd-is, gcd-zero, gcdFrom-first, gcdFrom-each, dvd-gcdFrom, gcdFrom-scaled, DividesEach, each-value, each-number}
-use Rattle.format.proofs.Values.{each-map, to-other, gcd-from-smallest, over-sym, dvd-between, spread-each, most-has, smallest-has}
+use Rattle.laws.proofs.Cases.{equal-or}
+use Rattle.laws.proofs.Tests.{both-true, true-both, or-left, or-right}
+use Rattle.laws.proofs.Gcd.{gcd-is, gcd-zero, gcdFrom-first, gcdFrom-each, dvd-gcdFrom, gcdFrom-scaled, DividesEach, each-value, each-number}
+use Rattle.laws.proofs.Values.{each-map, to-other, gcd-from-smallest, over-sym, dvd-between, spread-each, most-has, smallest-has}
 use Rattle.run_check.specs.RunsOk.{divisorOk}
 
 -- ---- the values' divisor, by the greatest common divisor of their differences

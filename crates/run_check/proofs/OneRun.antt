@@ -8,11 +8,11 @@ use Rattle.format.specs.Editions.{highFirst}
 use Rattle.format.specs.Values.{smallest, greatest, over, widthWith, storedWith, bitsIn, bitLength, valueAt}
 use Rattle.format.specs.Pairs.{Below, Each, Fits}
 use Rattle.format.specs.ValueRuns.{Summary, runBytes}
-use Rattle.format.proofs.Cases.{below-or, equal-or}
-use Rattle.format.proofs.Tests.{both-true, true-both, or-left, or-right}
-use Rattle.format.proofs.Bits.{highOrder, packed-fetched, spare-packed, unpacked-below, length-unpacked}
-use Rattle.format.proofs.Editions.{high-first-sound}
-use Rattle.format.proofs.Fits.{fits-size, size-fits}
+use Rattle.laws.proofs.Cases.{below-or, equal-or}
+use Rattle.laws.proofs.Tests.{both-true, true-both, or-left, or-right}
+use Rattle.laws.proofs.Bits.{highOrder, packed-fetched, spare-packed, unpacked-below, length-unpacked}
+use Rattle.laws.proofs.Editions.{high-first-sound}
+use Rattle.laws.proofs.Fits.{fits-size, size-fits}
 use Rattle.signed.specs.Sign.{biased, unbiased}
 use Rattle.signed.proofs.Signs.{biased-+, biased-+-out, unbiased-biased}
 use Rattle.scaling.specs.Numbers.{leastFrom, mostFrom}

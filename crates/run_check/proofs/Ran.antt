@@ -3,7 +3,7 @@ use Rattle.format.specs.Kit.{_≡_, true, false, List, ℕ, _+_, _-_, _*_, _≤
 use Rattle.format.specs.Limits.{maxWidth}
 use Rattle.format.specs.Bits.{packedBytes}
 use Rattle.format.specs.ValueRuns.{Summary}
-use Rattle.format.proofs.Tests.{both-true}
+use Rattle.laws.proofs.Tests.{both-true}
 use Rattle.scaling.specs.Numbers.{leastFrom, mostFrom}
 use Rattle.packings.specs.declared.Order as Od
 use Rattle.packings.specs.Packings.{spareOk}

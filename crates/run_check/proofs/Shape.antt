@@ -3,7 +3,7 @@ use Rattle.format.specs.Kit.{_≡_, refl, sym, ap, ap₂, _∙_, List, [], _∷
 use Rattle.format.specs.Kit.{drop-at, take-all, drop-of-length-le, ℤ}
 use Rattle.format.specs.Pairs.{Each}
 use Rattle.format.specs.ValueRuns.{runLength, runsIn}
-use Rattle.format.proofs.Cases.{below-or}
+use Rattle.laws.proofs.Cases.{below-or}
 use Rattle.run_check.proofs.Divisor.{joined, EachRun, each-append}
 
 -- so many values in runs

@@ -6,9 +6,9 @@ use Rattle.format.specs.Bits.{packedBytes, unpacked}
 use Rattle.format.specs.Values.{smallest, over, gcd, gcdFrom, storedWith, valueAt}
 use Rattle.format.specs.Pairs.{Below, Each, Fits}
 use Rattle.format.specs.ValueRuns.{runLength, runCount, Summary, summaryAt, summaryOf, summaries, runBytes}
-use Rattle.format.proofs.Tests.{both-true}
-use Rattle.format.proofs.Digits.{below-take, below-drop}
-use Rattle.format.proofs.Bits.{byte-at}
+use Rattle.laws.proofs.Tests.{both-true}
+use Rattle.laws.proofs.Digits.{below-take, below-drop}
+use Rattle.laws.proofs.Bits.{byte-at}
 use Rattle.run_check.specs.RunsOk.{partAt, numbersAt, runOk, divisorOk, runsOk}
 use Rattle.run_check.proofs.Divisor.{EachRun, Divided, apartIn, commonIn}
 use Rattle.run_check.proofs.Directory.{summariesAt, smallest-fits-at, greatest-fits-at}

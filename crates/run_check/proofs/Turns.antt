@@ -4,8 +4,8 @@ use Rattle.format.specs.Kit.{bitAnd, and-mask, length, drop, drop-cons, drop-of
 use Rattle.format.specs.Bits.{fetched, unpacked}
 use Rattle.format.specs.Values.{gcd, gcdFrom}
 use Rattle.format.specs.Pairs.{Below}
-use Rattle.format.proofs.Bits.{fetched-is, within, unpacked-below, length-unpacked}
-use Rattle.format.proofs.Gcd.{gcd-zero}
+use Rattle.laws.proofs.Bits.{fetched-is, within, unpacked-below, length-unpacked}
+use Rattle.laws.proofs.Gcd.{gcd-zero}
 use Rattle.packing.proofs.Join.{place-next}
 use Rattle.scaling.specs.Numbers.{leastFrom, mostFrom}
 use Rattle.scaling.specs.Reciprocal.{Reciprocal}

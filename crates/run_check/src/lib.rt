@@ -9,13 +9,13 @@ ghost use Rattle.format.specs.Bits.{unpacked};
 ghost use Rattle.format.specs.Values.{over, gcdFrom};
 ghost use Rattle.format.specs.ValueRuns.{runLength, runCount, directoryLength};
 ghost use Rattle.format.specs.Editions.{runs, codec};
-ghost use Rattle.format.specs.Replies.{fieldsOf};
+ghost use Rattle.answers.specs.Replies.{fieldsOf};
 ghost use Rattle.signed.specs.Sign.{unbiased};
 ghost use Rattle.scaling.specs.Numbers.{leastFrom, mostFrom};
 ghost use Rattle.run_values.specs.Summaries.{summaryIs};
 ghost use Rattle.run_check.specs.RunsOk.{numbersAt, rangeOk, largest, runOk, divisorOk, runsOk, valuesOk};
 ghost use Rattle.run_check.specs.Tested.{TestedAs};
-use format::Fields;
+use answers::Fields;
 use packings::Order;
 use run_values::Summary;
 

@@ -8,7 +8,7 @@ use Rattle.format.specs.Codec.{Fields}
 use Rattle.format.specs.ValueRuns.{runLength, directoryLength, Summary, summaryAt, inRun}
 use Rattle.format.specs.Editions.{runs, codec}
 use Rattle.format.specs.FirstBetween.{between, skipped, scanFrom, runsFrom}
-use Rattle.format.proofs.Editions.{runs-value}
+use Rattle.laws.proofs.Editions.{runs-value}
 use Rattle.run_reader.specs.declared.Found as Fo
 use Rattle.run_reader.proofs.Found as Found
 use Rattle.run_reader.specs.Sought.{foundOr}

@@ -10,13 +10,13 @@ use Rattle.format.specs.ValueRuns.{runLength, directoryLength, Summary, summary
 use Rattle.format.specs.Editions.{runs, codec, highFirst}
 use Rattle.format.specs.Check.{allValues}
 use Rattle.format.specs.Stores.{Fill}
-use Rattle.format.proofs.Cases.{true-or}
-use Rattle.format.proofs.Tests.{true-both}
-use Rattle.format.proofs.Bits.{within, fetched-front}
-use Rattle.format.proofs.Fits.{unzigzag-zigzag}
-use Rattle.format.proofs.Scaled.{scaled-rules, scaled-value}
-use Rattle.format.proofs.RoundTrip.{all-same, all-at, all-part}
-use Rattle.format.proofs.Stores.{part-more, part-put}
+use Rattle.laws.proofs.Cases.{true-or}
+use Rattle.laws.proofs.Tests.{true-both}
+use Rattle.laws.proofs.Bits.{within, fetched-front}
+use Rattle.laws.proofs.Fits.{unzigzag-zigzag}
+use Rattle.laws.proofs.Scaled.{scaled-rules, scaled-value}
+use Rattle.laws.proofs.RoundTrip.{all-same, all-at, all-part}
+use Rattle.laws.proofs.Stores.{part-more, part-put}
 use Rattle.run_values.specs.Summaries.{reachesIn}
 use Rattle.run_values.proofs.Reached.{narrow, reach, at-reached, not-reached, reached}
 use Rattle.run_reader.proofs.Left.{value-in}

@@ -12,12 +12,12 @@ ghost use Rattle.format.specs.ValueRuns.{runLength, runCount, summaryAt, inRun}
 ghost use Rattle.format.specs.Editions.{runs, codec};
 ghost use Rattle.format.specs.Check.{allValues};
 ghost use Rattle.format.specs.FirstBetween.{between, skipped, scanFrom, runsFrom};
-ghost use Rattle.format.specs.Replies.{fieldsOf};
+ghost use Rattle.answers.specs.Replies.{fieldsOf};
 ghost use Rattle.signed.specs.Sign.{unbiased};
 ghost use Rattle.run_values.specs.Summaries.{summaryIs};
 ghost use Rattle.run_reader.specs.Sought.{foundOr};
-use format::Fetched;
-use format::Fields;
+use answers::Fetched;
+use answers::Fields;
 use packings::Order;
 use run_values::RUN;
 use run_values::Summary;

@@ -5,12 +5,12 @@ use Rattle.format.specs.Kit.{arith, length, getD, take, drop, set, length-appen
 use Rattle.format.specs.Kit.{length-sets, putMid, ℤ}
 use Rattle.format.specs.Bytes.{bytesOf, low}
 use Rattle.format.specs.ValueRuns.{runLength, runCount, runsOf, runBytes, Summary, summaryOf, summaries, summaryBytes, runSection}
-use Rattle.format.proofs.Cases.{below-or}
-use Rattle.format.proofs.Digits.{length-digits}
-use Rattle.format.proofs.Stores.{sets-then, sets-comm, sets-front, part-put}
-use Rattle.format.proofs.Pieces.{split-bytes, length-bytes-of}
-use Rattle.format.proofs.ValueRuns.{length-summary, length-summaries, length-directory, runStart, summary-is}
-use Rattle.format.proofs.InRuns.{its-run}
+use Rattle.laws.proofs.Cases.{below-or}
+use Rattle.laws.proofs.Digits.{length-digits}
+use Rattle.laws.proofs.Stores.{sets-then, sets-comm, sets-front, part-put}
+use Rattle.laws.proofs.Pieces.{split-bytes, length-bytes-of}
+use Rattle.laws.proofs.ValueRuns.{length-summary, length-summaries, length-directory, runStart, summary-is}
+use Rattle.laws.proofs.InRuns.{its-run}
 
 -- ---- a run among the values
 
@@ -21,11 +21,25 @@ take-min {A} k l =
     ap (λ (n : ℕ). take n l) m ∙ take-all (length l) l (omega arith) ∙ sym (take-all k l (omega arith)))
     (λ h. let m : min k (length l) ≡ k = omega arith in ap (λ (n : ℕ). take n l) m)
 
-pub part-is : (vs : List ℤ) (r i j : ℕ) → r < runCount (length vs) → i ≡ runLength * r → j ≡ i + min runLength (length vs - runLength * r)
-    → take (j - i) (drop i vs) ≡ getD (runsOf vs) r []
-part-is vs r i j h ei ej =
-    let n : j - i ≡ min runLength (length (drop (runLength * r) vs)) = omega (arith, length-drop (runLength * r) vs) in
-    ap₂ (λ (k m : ℕ). take k (drop m vs)) n ei ∙ take-min runLength (drop (runLength * r) vs) ∙ sym (its-run vs r h)
+-- k values from run r's start on, as the code lends them
+abbrev pub part : List ℤ → ℕ → ℕ → List ℤ
+part vs r k = take (runLength * r + k - runLength * r) (drop (runLength * r) vs)
+
+-- they are run r
+pub record IsRun (vs : List ℤ) (r k : ℕ) : Type 0 where
+  pub ends : runLength * r + k ≤ length vs
+  pub run : part vs r k ≡ getD (runsOf vs) r []
+  pub long : length (part vs r k) ≡ runLength * r + k - runLength * r
+
+pub part-is : (vs : List ℤ) (r k : ℕ) → r < runCount (length vs) → k ≡ min runLength (length vs - runLength * r) → IsRun vs r k
+part-is vs r k h e =
+    let i : ℕ = runLength * r in
+    let n : i + k - i ≡ min runLength (length (drop i vs)) = omega (arith, e, length-drop i vs) in
+    record {
+      ends = omega (arith, h, e);
+      run = ap (λ (m : ℕ). take m (drop i vs)) n ∙ take-min runLength (drop i vs) ∙ sym (its-run vs r h);
+      long = omega (arith, h, e, length-take (i + k - i) (drop i vs), length-drop i vs);
+    }
 
 -- one run more
 pub start-more : (g : ℕ) (rs : List (List ℤ)) (r : ℕ) → r < length rs

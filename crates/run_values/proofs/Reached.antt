@@ -8,10 +8,10 @@ use Rattle.format.specs.Values.{valueAt}
 use Rattle.format.specs.Codec.{Fields, signed64}
 use Rattle.format.specs.ValueRuns.{directoryLength, Summary, inRun}
 use Rattle.format.specs.Editions.{runs, codec}
-use Rattle.format.proofs.Cases.{equal-or}
-use Rattle.format.proofs.Tests.{both-true}
-use Rattle.format.proofs.Fits.{fits-size, untwos-fits}
-use Rattle.format.proofs.Editions.{runs-rules}
+use Rattle.laws.proofs.Cases.{equal-or}
+use Rattle.laws.proofs.Tests.{both-true}
+use Rattle.laws.proofs.Fits.{fits-size, untwos-fits}
+use Rattle.laws.proofs.Editions.{runs-rules}
 use Rattle.signed.specs.Sign.{biased, unbiased}
 use Rattle.signed.proofs.Signs.{unbiased-biased}
 use Rattle.run_values.specs.Summaries.{reachesIn}

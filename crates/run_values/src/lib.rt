@@ -5,12 +5,12 @@ ghost use mathlib.Core.Bool.{cond};
 ghost use Prim.Native.Nat.{ℕ, _+_, _-_, _*_, _/_, _%_, _^_, _≤_, _<_, min};
 ghost use lib.Dec.{eqb};
 ghost use lib.ListN.{length, drop};
-ghost use Rattle.format.specs.Limits.{maxCount, maxWidth};
+ghost use Rattle.format.specs.Limits.{maxCount};
 ghost use Rattle.format.specs.ValueRuns.{runLength, runCount, directoryLength, summaryAt, inRun};
 ghost use Rattle.format.specs.Editions.{runs, codec};
-ghost use Rattle.format.specs.Replies.{fieldsOf};
+ghost use Rattle.answers.specs.Replies.{fieldsOf};
 ghost use Rattle.run_values.specs.Summaries.{summaryIs, SlotIs, reachesIn};
-use format::Fields;
+use answers::Fields;
 use scaled_values::Slot;
 use scaled_values::Slotted;
 

@@ -1,22 +1,21 @@
 // The value section of edition 3 written, run by run.
 ghost use mathlib.Core.Path.{_≡_};
 ghost use mathlib.Core.List.{_++_};
-ghost use Prim.Native.Nat.{_+_, _-_, _*_, _/_, _≤_, _<_, min};
+ghost use Prim.Native.Nat.{_+_, _-_, _*_, _/_, _≤_, _<_};
 ghost use lib.ListN.{length, drop};
 ghost use lib.Seq.{sets};
 ghost use Rattle.format.specs.Limits.{maxCount, maxWidth};
-ghost use Rattle.format.specs.Values.{bitLength};
 ghost use Rattle.format.specs.Pairs.{Each, Fits};
 ghost use Rattle.format.specs.ValueRuns.{runLength, runBytes, summaryOf, summaryBytes};
 ghost use Rattle.format.specs.Editions.{runs, codec};
-ghost use Rattle.format.specs.Replies.{fieldsOf};
+ghost use Rattle.answers.specs.Replies.{fieldsOf};
 ghost use Rattle.run_values.specs.Summaries.{summaryIs};
 use super::RUN;
 use super::Summary;
 use super::count_in;
 use super::directory_length;
 use super::run_count;
-use format::Fields;
+use answers::Fields;
 use packings::Order;
 
 // What the header says of the values.

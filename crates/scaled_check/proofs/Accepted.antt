@@ -8,12 +8,12 @@ use Rattle.format.specs.Bits.{tabulate, bitBytes}
 use Rattle.format.specs.Values.{smallest, greatest, gcdFrom, divisor, stored, storedWith, spread}
 use Rattle.format.specs.Pairs.{Below, Each, Fits}
 use Rattle.format.specs.Codec.{Fields, widthBy, scaled}
-use Rattle.format.proofs.Cases.{equal-or}
-use Rattle.format.proofs.Bits.{byte-at}
-use Rattle.format.proofs.Orders.{packedBy, packed-fetched, spare-packed, bits-past}
-use Rattle.format.proofs.Fits.{zigzag-unzigzag, unzigzag-zigzag, unzigzag-fits, greatest-fits}
-use Rattle.format.proofs.Halves.{ValuesOf, Tested, values-decoded}
-use Rattle.format.proofs.Scaled.{scaled-takes, scaled-fields, scaled-section, scaled-lawful}
+use Rattle.laws.proofs.Cases.{equal-or}
+use Rattle.laws.proofs.Bits.{byte-at}
+use Rattle.laws.proofs.Orders.{packedBy, packed-fetched, spare-packed, bits-past}
+use Rattle.laws.proofs.Fits.{zigzag-unzigzag, unzigzag-zigzag, unzigzag-fits, greatest-fits}
+use Rattle.laws.proofs.Halves.{ValuesOf, Tested, values-decoded}
+use Rattle.laws.proofs.Scaled.{scaled-takes, scaled-fields, scaled-section, scaled-lawful}
 use Rattle.packings.specs.declared.Order.{Order}
 use Rattle.packings.specs.Packings.{packingOf, narrowerBy, spareOk}
 use Rattle.packings.proofs.Packings.{soundOf, width-is, top-is, width-zero, pack-none}
@@ -26,7 +26,7 @@ use Rattle.scaling.specs.Numbers.{leastFrom, mostFrom}
 use Rattle.scaling.proofs.Stored.{most-first, value-zero, fits-below, each-fits}
 use Rattle.scaling.proofs.Ranged.{most-below, least-le, greatest-is, zero-there, zero-needed, divisor-equal, divisor-spread, own-over, own-stored}
 use Rattle.scaled_check.proofs.Tested.{numbers-are}
-use Rattle.format.proofs.Tests.{both-true, true-both, or-left, or-right}
+use Rattle.laws.proofs.Tests.{both-true, true-both, or-left, or-right}
 
 no-bytes : (s : List ℕ) → length s ≡ 0 → [] ≡ s
 no-bytes [] e = refl

@@ -7,10 +7,10 @@ use Rattle.format.specs.HeaderNumbers.{unzigzag}
 use Rattle.format.specs.Values.{fits64, gcd, gcdFrom, valueAt}
 use Rattle.format.specs.Pairs.{Fits}
 use Rattle.format.specs.Codec.{Fields, signed64}
-use Rattle.format.proofs.Bits.{within}
+use Rattle.laws.proofs.Bits.{within}
 use Rattle.packing.proofs.Join.{place-next}
-use Rattle.format.proofs.Digits.{below-drop}
-use Rattle.format.proofs.Fits.{unzigzag-fits}
+use Rattle.laws.proofs.Digits.{below-drop}
+use Rattle.laws.proofs.Fits.{unzigzag-fits}
 use Rattle.scaling.specs.Reciprocal.{Reciprocal}
 use Rattle.scaling.proofs.Guess.{reciprocal-zero}
 use Rattle.packings.specs.declared.Order.{Order}
@@ -19,13 +19,13 @@ use Rattle.packings.proofs.Packings.{fetch-small}
 use Rattle.scaled_values.specs.Held.{numbersIn, valueFrom}
 use Rattle.scaled_values.proofs.Facts.{Rules}
 use Rattle.scaled_values.proofs.Held.{numbers-below, length-numbers, number-at}
-use Rattle.format.proofs.Gcd.{gcdFrom-one}
+use Rattle.laws.proofs.Gcd.{gcdFrom-one}
 use Rattle.scaled_check.specs.ValuesOk.{rangeOk, numbersOk}
 use Rattle.scaling.specs.Numbers.{leastFrom, mostFrom}
 use Rattle.scaling.proofs.Stored.{most-first, fits-below}
 use Rattle.scaling.proofs.Ranged.{most-below, least-le}
 use Rattle.scaled_check.proofs.Tested.{numbers-are}
-use Rattle.format.proofs.Tests.{both-true, true-both}
+use Rattle.laws.proofs.Tests.{both-true, true-both}
 
 -- ---- whether a value fits, by what is fetched
 

@@ -8,12 +8,12 @@ ghost use lib.ListN.{length};
 ghost use Rattle.format.specs.Values.{fits64};
 ghost use Rattle.format.specs.Limits.{maxCount};
 ghost use Rattle.format.specs.Codec.{scaled};
-ghost use Rattle.format.specs.Replies.{fieldsOf};
+ghost use Rattle.answers.specs.Replies.{fieldsOf};
 ghost use Rattle.packings.specs.Packings.{packingOf};
 ghost use Rattle.scaled_values.specs.Held.{valueFrom, numbersIn};
 ghost use Rattle.scaled_check.specs.ValuesOk.{numbersOk, equalOk, spreadOk, valuesOk};
-use format::Fetched;
-use format::Fields;
+use answers::Fetched;
+use answers::Fields;
 use packings::Order;
 
 // Whether the value of a stored number fits in 64 bits.

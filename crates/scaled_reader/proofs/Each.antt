@@ -8,14 +8,14 @@ use Rattle.format.specs.Pairs.{Each, Fits}
 use Rattle.format.specs.Codec.{Fields}
 use Rattle.format.specs.Stores.{Fill}
 use Rattle.signed.specs.Sign.{biased, unbiased}
-use Rattle.format.proofs.Fits.{fits-size, unzigzag-fits}
+use Rattle.laws.proofs.Fits.{fits-size, unzigzag-fits}
 use Rattle.signed.proofs.Signs.{biased-+-out, unbiased-+}
 use Rattle.packings.specs.declared.Order.{Order}
 use Rattle.packings.specs.Packings.{packingOf, cut}
 use Rattle.scaled_values.specs.Held.{numbersIn, valueFrom, valuesFrom}
 use Rattle.scaled_values.proofs.Held.{length-numbers, number-at}
 use Rattle.scaled_reader.specs.Stored.{fourOf, FourFit}
-use Rattle.format.proofs.Stores.{part-more}
+use Rattle.laws.proofs.Stores.{part-more}
 
 -- ---- one value
 

@@ -11,11 +11,11 @@ ghost use lib.Seq.{sets};
 ghost use Rattle.format.specs.Limits.{maxCount};
 ghost use Rattle.format.specs.Codec.{scaled};
 ghost use Rattle.format.specs.Check.{allValues};
-ghost use Rattle.format.specs.Replies.{fieldsOf};
+ghost use Rattle.answers.specs.Replies.{fieldsOf};
 ghost use Rattle.signed.specs.Sign.{unbiased};
 ghost use Rattle.packings.specs.Packings.{packingOf, cut};
 ghost use Rattle.scaled_reader.specs.Stored.{FourFit, fourOf, AllFit, FilledTo};
-use format::Fields;
+use answers::Fields;
 use packings::Order;
 
 // The value of a stored number, where it fits; `low` is the smallest value, biased.

@@ -6,10 +6,10 @@ use Rattle.format.specs.Bits.{packedBytes}
 use Rattle.format.specs.Values.{smallest, spread, divisor}
 use Rattle.format.specs.Pairs.{Each, Fits}
 use Rattle.format.specs.Codec.{Fields, widthBy, scaled}
-use Rattle.format.proofs.Tests.{both-true}
-use Rattle.format.proofs.Bits.{within}
-use Rattle.format.proofs.Bounds as Bounds
-use Rattle.format.proofs.Scaled.{scaled-fields, scaled-rules, width-narrow}
+use Rattle.laws.proofs.Tests.{both-true}
+use Rattle.laws.proofs.Bits.{within}
+use Rattle.laws.proofs.Bounds as Bounds
+use Rattle.laws.proofs.Scaled.{scaled-fields, scaled-rules, width-narrow}
 use Rattle.packings.specs.declared.Order.{Order}
 use Rattle.packings.specs.Packings.{packingOf}
 use Rattle.packings.proofs.Packings.{soundOf}

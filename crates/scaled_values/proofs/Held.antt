@@ -6,8 +6,8 @@ use Rattle.format.specs.Values.{fits64}
 use Rattle.format.specs.Pairs.{Below, Each, Fits}
 use Rattle.format.specs.Codec.{Fields, signed64, scaled}
 use Rattle.format.specs.Check.{allValues}
-use Rattle.format.proofs.Orders.{length-tabulate, getD-tabulate, below-tabulate}
-use Rattle.format.proofs.Scaled.{signed-fits, scaled-value}
+use Rattle.laws.proofs.Orders.{length-tabulate, getD-tabulate, below-tabulate}
+use Rattle.laws.proofs.Scaled.{signed-fits, scaled-value}
 use Rattle.packings.specs.declared.Order.{Order}
 use Rattle.packings.specs.Packings.{packingOf}
 use Rattle.packings.proofs.Packings.{fetch-small}

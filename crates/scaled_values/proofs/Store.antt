@@ -7,11 +7,11 @@ use Rattle.format.specs.Bits.{bitBytes, packedBytes}
 use Rattle.format.specs.Values.{smallest, spread, over, divisor, widthWith, storedWith, stored}
 use Rattle.format.specs.Pairs.{Each, Fits}
 use Rattle.format.specs.Codec.{widthBy, scaled}
-use Rattle.format.proofs.Bits.{below-at}
-use Rattle.format.proofs.Orders.{packedBy}
-use Rattle.format.proofs.Bounds.{spread-lt}
-use Rattle.format.proofs.Values.{length-stored-with, length-stored, stored-below, bit-length-le}
-use Rattle.format.proofs.Scaled.{scaled-section, size, width-narrow}
+use Rattle.laws.proofs.Bits.{below-at}
+use Rattle.laws.proofs.Orders.{packedBy}
+use Rattle.laws.proofs.Bounds.{spread-lt}
+use Rattle.laws.proofs.Values.{length-stored-with, length-stored, stored-below, bit-length-le}
+use Rattle.laws.proofs.Scaled.{scaled-section, size, width-narrow}
 use Rattle.packings.specs.declared.Order.{Order}
 use Rattle.packings.specs.Packings.{packingOf}
 use Rattle.packings.proofs.Packings.{soundOf}

@@ -4,8 +4,8 @@ use Rattle.format.specs.Limits.{maxCount}
 use Rattle.format.specs.HeaderNumbers.{unzigzag}
 use Rattle.format.specs.Values.{valueAt}
 use Rattle.format.specs.Codec.{Fields, signed64, scaled}
-use Rattle.format.proofs.Fits.{fits-size, unzigzag-fits}
-use Rattle.format.proofs.Scaled.{scaled-value}
+use Rattle.laws.proofs.Fits.{fits-size, unzigzag-fits}
+use Rattle.laws.proofs.Scaled.{scaled-value}
 use Rattle.signed.proofs.Signs.{unbiased-biased}
 use Rattle.packings.specs.declared.Order.{Order}
 use Rattle.packings.specs.Packings.{packingOf}

@@ -9,10 +9,10 @@ ghost use Rattle.format.specs.Bits.{packedBytes};
 ghost use Rattle.format.specs.Values.{storedWith};
 ghost use Rattle.format.specs.Pairs.{Each, Fits};
 ghost use Rattle.format.specs.Codec.{scaled};
-ghost use Rattle.format.specs.Replies.{fieldsOf};
+ghost use Rattle.answers.specs.Replies.{fieldsOf};
 ghost use Rattle.packings.specs.Packings.{packingOf};
 ghost use Rattle.scaled_values.specs.Storing.{Storing};
-use format::Fields;
+use answers::Fields;
 use packings::Order;
 
 mod slots;

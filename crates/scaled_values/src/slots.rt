@@ -2,9 +2,9 @@
 // compiled into the look-up, the next candidate and the page.
 ghost use mathlib.Core.Path.{_≡_};
 ghost use Prim.Native.Nat.{_<_, _^_};
-ghost use Rattle.format.specs.Replies.{fetchedOf};
+ghost use Rattle.answers.specs.Replies.{fetchedOf};
 ghost use Rattle.scaled_values.specs.Slots.{wholeSlot, Stands, slotNumber, slotValue};
-use format::Fetched;
+use answers::Fetched;
 use packings::Order;
 
 // Number `index` of `width` bits, from a byte of the section on; its value stands above `low`, which is biased.

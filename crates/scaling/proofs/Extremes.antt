@@ -4,7 +4,7 @@ use Rattle.format.specs.Kit.{_≡_, sym, ap, _∙_, subst, Bool, true, false, n
 use Rattle.format.specs.Kit.{T, ℤ, pos, length, getD, drop, drop-of-length-le, drop-cons, mag, leZ}
 use Rattle.format.specs.Values.{leastOf, mostOf, smallest, greatest}
 use Rattle.format.specs.Pairs.{Each, Fits}
-use Rattle.format.proofs.Fits.{size-fits}
+use Rattle.laws.proofs.Fits.{size-fits}
 use Rattle.signed.specs.Sign.{biased, unbiased}
 use Rattle.signed.proofs.Signs.{unbiased-biased, biased-unbiased, biased-le, biased-ge}
 use Rattle.scaling.specs.Scaled.{EndsOf}

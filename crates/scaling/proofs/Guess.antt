@@ -3,7 +3,7 @@ use Rattle.format.specs.Kit.{_≡_, refl, sym, ap, _∙_, _⊎_, ⊎-elim, Bool
 use Rattle.format.specs.Kit.{mul-le-mul, mul-le-mul-right, mul-le-mul-left, add-mul, mul-add, one-mul, le-div-iff-mul-le, div-lt-iff-lt-mul, leb}
 use Rattle.format.specs.Kit.{leb-true, leb-false, le-leb, lt-leb, arith, digits-div}
 use Rattle.format.specs.Values.{gcd}
-use Rattle.format.proofs.Gcd.{gcd-multiple}
+use Rattle.laws.proofs.Gcd.{gcd-multiple}
 use Rattle.scaling.specs.Reciprocal.{Reciprocal}
 
 module _ (x m d : ℕ) (p : Reciprocal d m) where

@@ -3,8 +3,8 @@ use Rattle.format.specs.Kit.{_≡_, sym, ap, _∙_, List, ℕ, _-_, _≤_, _<_,
 use Rattle.format.specs.HeaderNumbers.{zigzag}
 use Rattle.format.specs.Values.{smallest, greatest, over, spread, gcdFrom, differences, divisor}
 use Rattle.format.specs.Pairs.{Each, Fits}
-use Rattle.format.proofs.Values.{each-at, smallest-each}
-use Rattle.format.proofs.Fits.{fits-size, smallest-fits, greatest-fits}
+use Rattle.laws.proofs.Values.{each-at, smallest-each}
+use Rattle.laws.proofs.Fits.{fits-size, smallest-fits, greatest-fits}
 use Rattle.signed.specs.Sign.{biased, unbiased}
 use Rattle.signed.proofs.Signs.{biased-le, biased-over, unbiased-biased}
 use Rattle.scaling.specs.Scaled.{EndsOf}

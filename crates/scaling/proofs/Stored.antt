@@ -4,10 +4,10 @@ use Rattle.format.specs.Kit.{le-of-mul-le-mul-left, arith, leb, ℤ, pos, negsu
 use Rattle.format.specs.Kit.{le-ltb, le-leb, lt-leb}
 use Rattle.format.specs.Values.{leastOf, mostOf, smallest, over, gcdFrom, differences, valueAt}
 use Rattle.format.specs.Pairs.{Each, Fits}
-use Rattle.format.proofs.Cases.{below-or}
-use Rattle.format.proofs.Gcd.{gcdFrom-scaled}
-use Rattle.format.proofs.Values.{gcd-from-smallest}
-use Rattle.format.proofs.Fits.{fits-size, size-fits}
+use Rattle.laws.proofs.Cases.{below-or}
+use Rattle.laws.proofs.Gcd.{gcdFrom-scaled}
+use Rattle.laws.proofs.Values.{gcd-from-smallest}
+use Rattle.laws.proofs.Fits.{fits-size, size-fits}
 use Rattle.signed.specs.Sign.{biased}
 use Rattle.scaling.specs.Numbers.{leastFrom, mostFrom}
 use Rattle.signed.proofs.Signs.{biased-+, biased-+-out}

@@ -10,11 +10,11 @@ ghost use Rattle.format.specs.HeaderNumbers.{unzigzag};
 ghost use Rattle.format.specs.Values.{smallest, spread, gcd, gcdFrom, differences, divisor, valueAt};
 ghost use Rattle.format.specs.Pairs.{Each, Fits};
 ghost use Rattle.format.specs.Codec.{signed64};
-ghost use Rattle.format.specs.Replies.{fetchedOf};
+ghost use Rattle.answers.specs.Replies.{fetchedOf};
 ghost use Rattle.signed.specs.Sign.{biased, unbiased};
 ghost use Rattle.scaling.specs.Scaled.{EndsOf, Scaled};
 ghost use Rattle.scaling.specs.Reciprocal.{Reciprocal};
-use format::Fetched;
+use answers::Fetched;
 
 // 2^32: numbers below it have a product below 2^64.
 const SMALL: u64 = 4294967296;

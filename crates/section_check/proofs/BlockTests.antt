@@ -8,9 +8,9 @@ use Rattle.format.specs.LookUp.{onesFrom}
 use Rattle.format.specs.Orders.{Order, fixedAt, numbersIn}
 use Rattle.format.specs.Pairs.{ascFrom}
 use Rattle.format.specs.Judge.{ranksFrom, placesOk, onesOk, ranksOk, onesUnlike, rankWrong}
-use Rattle.format.proofs.Cases.{below-or}
-use Rattle.format.proofs.Blocks.{kind-sparse, kind-dense, kind-all}
-use Rattle.format.proofs.Sizes.{ranks-none, ranks-some}
+use Rattle.laws.proofs.Cases.{below-or}
+use Rattle.laws.proofs.Blocks.{kind-sparse, kind-dense, kind-all}
+use Rattle.laws.proofs.Sizes.{ranks-none, ranks-some}
 use Rattle.judge.proofs.Held.{ranks-zero}
 use Rattle.section_check.specs.Reasons.{wordsReason}
 

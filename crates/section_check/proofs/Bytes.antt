@@ -6,10 +6,10 @@ use Rattle.format.specs.Bytes.{same}
 use Rattle.format.specs.Ids.{Entry}
 use Rattle.format.specs.Orders.{Order, bytesIn, numberIn, fixedAt, endIn, entryIn}
 use Rattle.format.specs.Pairs.{Below}
-use Rattle.format.proofs.Cases.{equal-or}
-use Rattle.format.proofs.Digits.{below-take, below-drop, below-all}
-use Rattle.format.proofs.RoundTrip.{same-refl}
-use Rattle.format.proofs.Unique.{same-eq}
+use Rattle.laws.proofs.Cases.{equal-or}
+use Rattle.laws.proofs.Digits.{below-take, below-drop, below-all}
+use Rattle.laws.proofs.RoundTrip.{same-refl}
+use Rattle.laws.proofs.Unique.{same-eq}
 use Rattle.judge.proofs.Numbers.{length-in, number-back, bytes-back}
 use Rattle.judge.proofs.Standing.{entry-eight}
 

@@ -9,11 +9,11 @@ use Rattle.format.specs.Ids.{Run, Entry, blockBytes, runs, jumpsFrom}
 use Rattle.format.specs.Runs.{totalBytes, AllFine, AscBlocks, endOf}
 use Rattle.format.specs.Orders.{Order, fixedAt, entryIn}
 use Rattle.format.specs.Judge.{jumpWrong, Ended, judgeFrom, jumpsIn, judgeEntries}
-use Rattle.format.proofs.Bounds.{total-le, end-le, block-le}
-use Rattle.format.proofs.Digits.{below-all}
-use Rattle.format.proofs.Jumps.{asc-blocks, length-jumps}
-use Rattle.format.proofs.Runs.{fine-runs}
-use Rattle.format.proofs.Sizes.{block-total, rank-max}
+use Rattle.laws.proofs.Bounds.{total-le, end-le, block-le}
+use Rattle.laws.proofs.Digits.{below-all}
+use Rattle.laws.proofs.Jumps.{asc-blocks, length-jumps}
+use Rattle.laws.proofs.Runs.{fine-runs}
+use Rattle.laws.proofs.Sizes.{block-total, rank-max}
 use Rattle.judge.proofs.Standing.{BlocksAt, Ahead, ahead}
 use Rattle.judge.proofs.Built.{comes}
 use Rattle.judge.proofs.Judged.{closed, long, jumps-are}

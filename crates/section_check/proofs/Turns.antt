@@ -10,8 +10,8 @@ use Rattle.format.specs.Ids.{Entry, dataBytes, blockBytes}
 use Rattle.format.specs.Orders.{Order, fixedAt, endIn, entryIn}
 use Rattle.format.specs.Judge.{cutOff, blockOrder, placeOrder, onesUnlike, rankWrong, endWrong, placesOk, onesOk, ranksOk, firstFailed, testsAt, unlessFault}
 use Rattle.format.specs.Judge.{Ended, judgeFrom, judgeEntries}
-use Rattle.format.proofs.Sizes.{block-total}
-use Rattle.format.proofs.Tests.{both-true}
+use Rattle.laws.proofs.Sizes.{block-total}
+use Rattle.laws.proofs.Tests.{both-true}
 use Rattle.section_check.proofs.Bytes.{entry-same, end-same}
 use Rattle.section_check.specs.Reasons.{headThen, wordsReason, blockReason, endReason, Turn, Repeats}
 

@@ -10,11 +10,11 @@ ghost use Rattle.format.specs.Limits.{Power, denseCount, blockPlaces, bitmapLon
 ghost use Rattle.format.specs.Pairs.{ascFrom};
 ghost use Rattle.format.specs.Orders.{Order, numbersIn};
 ghost use Rattle.format.specs.Judge.{ranksFrom};
-ghost use Rattle.format.specs.Replies.{orderOf};
+ghost use Rattle.answers.specs.Replies.{orderOf};
 ghost use Rattle.section_check.specs.Reasons.{headThen, wordsReason, blockReason};
+use answers::ByteOrder;
 use blocks::Block;
 use blocks::data_bytes;
-use format::ByteOrder;
 use numbers::short_in;
 
 // Whether all was right, and x is above y. Both are asked at once: no branch.

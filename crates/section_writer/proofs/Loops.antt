@@ -6,8 +6,8 @@ use Rattle.format.specs.Bytes.{bytesOf}
 use Rattle.format.specs.Ids.{Run, runs, blockBytes, entryBytes, jumpsFrom}
 use Rattle.format.specs.Runs.{AllFine, AscBlocks, totalBytes}
 use Rattle.format.specs.Stores.{Fill}
-use Rattle.format.proofs.Section.{length-bytesOf, entry-eight}
-use Rattle.format.proofs.Stores.{begun, part-more, room, filled, reached}
+use Rattle.laws.proofs.Section.{length-bytesOf, entry-eight}
+use Rattle.laws.proofs.Stores.{begun, part-more, room, filled, reached}
 use Rattle.block_writer.specs.Part.{runOf}
 use Rattle.section_writer.specs.Good.{Good, part, RunAt}
 use Rattle.section_writer.proofs.Steps.{its-block, fine-more, asc-more, bytes-more, bytes-none, jumps-more, length-equal, last-entry}

@@ -5,12 +5,12 @@ use Rattle.format.specs.Bytes.{bytesOf}
 use Rattle.format.specs.Ids.{runs, blockOf, endBlock, Entry, entryBytes, jumpsFrom, notTwo, jumps, blocks, idSection}
 use Rattle.format.specs.Pairs.{Below, Asc}
 use Rattle.format.specs.Runs.{endOf, totalBytes}
-use Rattle.format.proofs.Section.{length-blocks}
-use Rattle.format.proofs.Jumps.{length-jumps, asc-blocks}
-use Rattle.format.proofs.Bounds.{total-le, end-le}
-use Rattle.format.proofs.Runs.{fine-runs}
-use Rattle.format.proofs.Sizes.{rank-max}
-use Rattle.format.proofs.Stores.{sets-then}
+use Rattle.laws.proofs.Section.{length-blocks}
+use Rattle.laws.proofs.Jumps.{length-jumps, asc-blocks}
+use Rattle.laws.proofs.Bounds.{total-le, end-le}
+use Rattle.laws.proofs.Runs.{fine-runs}
+use Rattle.laws.proofs.Sizes.{rank-max}
+use Rattle.laws.proofs.Stores.{sets-then}
 use Rattle.section_writer.specs.Good.{Good}
 
 pub good : {ids : List ℕ} → Asc 0 ids → Below (suc maxId) ids → Good ids

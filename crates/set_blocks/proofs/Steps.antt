@@ -2,11 +2,11 @@
 use Rattle.format.specs.Kit.{_≡_, refl, sym, ap, _∙_, Bool, true, false, cond, _&&_, List, ℕ, _≤_, arith, leb, length, drop}
 use Rattle.format.specs.Limits.{maxBlock, maxKind}
 use Rattle.format.specs.Refusals.{Outcome, done, refused, andThen, need, DAMAGED}
-use Rattle.format.specs.Replies.{refusedAs}
+use Rattle.answers.specs.Replies.{refusedAs}
 use Rattle.format.specs.HeaderNumbers.{numberAt}
 use Rattle.format.specs.Pairs.{Below}
 use Rattle.format.specs.SetCalls.{listLengthOk, setDataOk, setPlaces, dataFrom, lengthFrom, kindFrom, blockFrom}
-use Rattle.format.specs.declared.Refusal.{Refusal}
+use Rattle.answers.specs.declared.Refusal.{Refusal}
 use Rattle.set_format.proofs.Data.{held}
 use Rattle.set_format.proofs.ByKind.{counted}
 use Rattle.set_blocks.specs.Found.{numberedOf}

@@ -1,7 +1,7 @@
 -- The code's answers on one block as the definitions' ones. Assumes nothing.
 use Rattle.format.specs.Kit.{_≡_, List, ℕ, length, drop}
 use Rattle.format.specs.Refusals.{Outcome, done}
-use Rattle.format.specs.Replies.{refusedAs}
+use Rattle.answers.specs.Replies.{refusedAs}
 use Rattle.format.specs.SetCalls.{SetHead, setPlaces}
 use Rattle.set_blocks.specs.declared.Numbered as Nu
 use Rattle.set_blocks.specs.declared.SetBlock.{SetBlock}

@@ -10,9 +10,9 @@ ghost use Rattle.format.specs.HeaderNumbers.{numberAt};
 ghost use Rattle.format.specs.SetBytes.{setKind};
 ghost use Rattle.format.specs.SetCalls.{listLengthOk, setDataBytes, setDataOk, setPlaces, dataFrom, lengthFrom, kindFrom, blockFrom};
 ghost use Rattle.set_blocks.specs.Found.{numberedOf, headOf, Counted};
+use answers::ByteOrder;
+use answers::Refusal;
 use blocks::Block;
-use format::ByteOrder;
-use format::Refusal;
 use header_numbers::Number;
 
 // A number and the place after it, or why there is none.

@@ -5,14 +5,14 @@ use Rattle.format.specs.Ids.{Run, countBelow}
 use Rattle.format.specs.IdsRead.{idsOf}
 use Rattle.format.specs.Limits.{maxId}
 use Rattle.format.specs.Refusals.{DAMAGED, ID, Outcome, andThen, done, need, refused}
-use Rattle.format.specs.Replies.{refusalNumber, refusalWith, refusedAs}
+use Rattle.answers.specs.Replies.{refusalNumber, refusalWith, refusedAs}
 use Rattle.format.specs.SetCalls.{Member, blocksFrom, memberAt, memberIn, noMember, setCheck, setFind, setIds}
-use Rattle.format.proofs.Tests.{result}
+use Rattle.laws.proofs.Tests.{result}
 use Rattle.set_blocks.proofs.Steps.{limit-broken, limit-kept, stopped}
 use Rattle.set_blocks.specs.Found.{numberedOf}
 use Rattle.set_check.specs.Tally.{nothing, onto, tallied, tallyOf, walkedFrom, walkedOf}
 use Rattle.set_check.specs.declared.Tally.{Tally}
-use Rattle.format.specs.declared.Refusal.{Refusal}
+use Rattle.answers.specs.declared.Refusal.{Refusal}
 use Rattle.set_blocks.specs.declared.Numbered as Nu
 use Rattle.set_check.specs.declared.Walked as Wa
 

@@ -4,7 +4,7 @@ use Rattle.format.specs.Bytes.{lowAt}
 use Rattle.format.specs.Ids.{countBelow}
 use Rattle.format.specs.IdsRead.{shorts}
 use Rattle.format.specs.Walk.{listed}
-use Rattle.format.proofs.Standing.{short-next}
+use Rattle.laws.proofs.Standing.{short-next}
 
 -- the shorts from index i on
 abbrev pub rest-of : List ℕ → ℕ → ℕ → ℕ → List ℕ

@@ -5,18 +5,18 @@ use Rattle.format.specs.Ids.{Run, countBelow}
 use Rattle.format.specs.IdsRead.{idsOf}
 use Rattle.format.specs.Pairs.{Below}
 use Rattle.format.specs.Refusals.{DAMAGED, Outcome, andThen, done, need, refused}
-use Rattle.format.specs.Replies.{refusedAs}
+use Rattle.answers.specs.Replies.{refusedAs}
 use Rattle.format.specs.SetCalls.{blockFrom, blocksFrom, setEnd, setRun}
 use Rattle.format.specs.Walk.{listed}
-use Rattle.format.proofs.Find.{count-all, count-append, count-length, count-none, count-same, listed-append, listed-not, listed-same}
-use Rattle.format.proofs.Places.{asc-length}
+use Rattle.laws.proofs.Find.{count-all, count-append, count-length, count-none, count-same, listed-append, listed-not, listed-same}
+use Rattle.laws.proofs.Places.{asc-length}
 use Rattle.set_blocks.specs.Found.{Counted, headIn, headOf, placesOf}
 use Rattle.set_blocks.specs.declared.SetBlock.{SetBlock}
 use Rattle.set_check.specs.Tally.{Added, Full, Sound, haltOf, idsIn, onto, walkedFrom}
 use Rattle.set_check.specs.declared.Tally.{Tally}
 use Rattle.set_format.proofs.Data.{fits, held}
 use Rattle.set_format.proofs.Whole.{Block, block-there}
-use Rattle.format.specs.declared.Refusal.{Refusal}
+use Rattle.answers.specs.declared.Refusal.{Refusal}
 use Rattle.set_blocks.specs.declared.Found as Fo
 
 -- ---- the turns

@@ -2,7 +2,7 @@
 use Rattle.format.specs.Kit.{_≡_, true, false, _||_, List, map, ℕ, _+_, _*_, _≤_, length}
 use Rattle.format.specs.Limits.{blockPlaces, maxBlock, maxKind}
 use Rattle.format.specs.Refusals.{Outcome, done, refused, andThen, DAMAGED}
-use Rattle.format.specs.Replies.{refusedAs}
+use Rattle.answers.specs.Replies.{refusedAs}
 use Rattle.format.specs.Ids.{Run, countBelow}
 use Rattle.format.specs.IdsRead.{idsOf}
 use Rattle.format.specs.Walk.{listed}

@@ -7,9 +7,9 @@ use Rattle.format.specs.LookUp.{onesFrom}
 use Rattle.format.specs.Pairs.{Below, ascFrom}
 use Rattle.format.specs.SetBytes.{missing, setKind}
 use Rattle.format.specs.SetCalls.{listLengthOk, setDataBytes, setDataFits, setDataOk, setPlaces}
-use Rattle.format.proofs.Digits.{below-drop}
-use Rattle.format.proofs.Probes.{length-shorts}
-use Rattle.format.proofs.Tests.{both-true}
+use Rattle.laws.proofs.Digits.{below-drop}
+use Rattle.laws.proofs.Probes.{length-shorts}
+use Rattle.laws.proofs.Tests.{both-true}
 use Rattle.judge.proofs.Parts.{asc-test}
 use Rattle.judge.proofs.LowFirst.{shorts-below}
 use Rattle.set_format.proofs.Data.{ones-count}

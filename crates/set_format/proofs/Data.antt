@@ -11,14 +11,14 @@ use Rattle.format.specs.Pairs.{Asc, Below, ascFrom}
 use Rattle.format.specs.Orders.{lowByte}
 use Rattle.format.specs.SetBytes.{missing, setData, setKind, setList}
 use Rattle.format.specs.SetCalls.{listLengthOk, setDataBytes, setDataFits, setDataOk, setPlaces}
-use Rattle.format.proofs.Blocks.{low-back}
-use Rattle.format.proofs.Cases.{below-or}
-use Rattle.format.proofs.Digits.{below-drop, length-digits}
-use Rattle.format.proofs.Places.{bitmap-is, bits-lt, shorts-back, take-low}
-use Rattle.format.proofs.Probes.{length-shorts}
-use Rattle.format.proofs.Section.{length-bytesOf}
-use Rattle.format.proofs.SetBits.{bitmap-set, bits-back, set-asc, set-below}
-use Rattle.format.proofs.Tests.{both-true}
+use Rattle.laws.proofs.Blocks.{low-back}
+use Rattle.laws.proofs.Cases.{below-or}
+use Rattle.laws.proofs.Digits.{below-drop, length-digits}
+use Rattle.laws.proofs.Places.{bitmap-is, bits-lt, shorts-back, take-low}
+use Rattle.laws.proofs.Probes.{length-shorts}
+use Rattle.laws.proofs.Section.{length-bytesOf}
+use Rattle.laws.proofs.SetBits.{bitmap-set, bits-back, set-asc, set-below}
+use Rattle.laws.proofs.Tests.{both-true}
 use Rattle.judge.proofs.Parts.{asc-test, test-asc}
 use Rattle.judge.proofs.Numbers.{number-split, first-lt}
 use Rattle.judge.proofs.LowFirst.{shorts-below, shorts-bytes, ones-low}

@@ -13,13 +13,13 @@ use Rattle.format.specs.LookUp.{lookUp}
 use Rattle.format.specs.Walk.{Seen, walk, wordless, listed, listAnswer}
 use Rattle.format.specs.SetBytes.{setBytes, setWrite}
 use Rattle.format.specs.SetCalls.{setIds, setCheck, Member, memberAt, noMember, memberIn, setFind, asMember, asSeen}
-use Rattle.format.proofs.Cases.{below-or}
-use Rattle.format.proofs.Tests.{result, needed, needed-none, passed}
-use Rattle.format.proofs.RoundTrip.{in-order, in-range}
-use Rattle.format.proofs.Unique.{ordered, ranged}
-use Rattle.format.proofs.Lawful.{Lawful}
-use Rattle.format.proofs.Demands.{column-answers}
-use Rattle.format.proofs.Looked.{looked}
+use Rattle.laws.proofs.Cases.{below-or}
+use Rattle.laws.proofs.Tests.{result, needed, needed-none, passed}
+use Rattle.laws.proofs.RoundTrip.{in-order, in-range}
+use Rattle.laws.proofs.Unique.{ordered, ranged}
+use Rattle.laws.proofs.Lawful.{Lawful}
+use Rattle.laws.proofs.Demands.{column-answers}
+use Rattle.laws.proofs.Looked.{looked}
 use Rattle.set_format.proofs.Whole.{list-back, list-sound}
 
 -- ---- the bytes of a list are written, and accepted with its count

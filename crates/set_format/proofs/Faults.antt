@@ -5,9 +5,9 @@ use Rattle.format.specs.Refusals.{Outcome, done, refused, need, SHORT, NUMBER, 
 use Rattle.format.specs.HeaderNumbers.{numberAt}
 use Rattle.format.specs.Pairs.{Below}
 use Rattle.format.specs.SetCalls.{dataFrom, lengthFrom, kindFrom, blockFrom, blocksFrom, setIds, setCheck, setFind}
-use Rattle.format.proofs.Tests.{stopped, need-stopped}
-use Rattle.format.proofs.BadNumber.{BadBytes}
-use Rattle.format.proofs.HeaderFaults.{number-refused, number-short}
+use Rattle.laws.proofs.Tests.{stopped, need-stopped}
+use Rattle.laws.proofs.BadNumber.{BadBytes}
+use Rattle.laws.proofs.HeaderFaults.{number-refused, number-short}
 
 -- a number at some place is none, or DAMAGED
 pub data Stopped (bytes : List ℕ) (why w : ℕ) : Type 0 where

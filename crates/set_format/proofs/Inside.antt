@@ -8,12 +8,12 @@ use Rattle.format.specs.LookUp.{onesFrom, strideLong, strideRank}
 use Rattle.format.specs.Pairs.{Asc, Below}
 use Rattle.format.specs.SetCalls.{setDataBytes, setDataFits, setDataOk, setPlaces}
 use Rattle.format.specs.Walk.{listed}
-use Rattle.format.proofs.Dense.{bit-at, inner-is}
-use Rattle.format.proofs.Digits.{below-drop}
-use Rattle.format.proofs.Find.{occurs-listed}
-use Rattle.format.proofs.Ones.{bit-is}
-use Rattle.format.proofs.SetBits.{set-asc}
-use Rattle.format.proofs.Tests.{both-true}
+use Rattle.laws.proofs.Dense.{bit-at, inner-is}
+use Rattle.laws.proofs.Digits.{below-drop}
+use Rattle.laws.proofs.Find.{occurs-listed}
+use Rattle.laws.proofs.Ones.{bit-is}
+use Rattle.laws.proofs.SetBits.{set-asc}
+use Rattle.laws.proofs.Tests.{both-true}
 use Rattle.judge.proofs.Parts.{asc-test}
 use Rattle.judge.proofs.LowFirst.{shorts-below}
 use Rattle.set_format.proofs.ByKind.{bytes-bitmap, bytes-list, fitting-list, places-bitmap, places-listed, places-missing}

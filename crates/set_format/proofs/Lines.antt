@@ -12,8 +12,8 @@ use Rattle.format.specs.Runs.{Fine}
 use Rattle.format.specs.Walk.{listed}
 use Rattle.format.specs.SetBytes.{setKind, missing, setList, setData, setBlockAs, setBlock, setBytes}
 use Rattle.format.specs.SetCalls.{setCheck, Member, memberAt, noMember, memberIn, setFind}
-use Rattle.format.proofs.Places.{asc-weaken}
-use Rattle.format.proofs.Section.{length-countFrom}
+use Rattle.laws.proofs.Places.{asc-weaken}
+use Rattle.laws.proofs.Section.{length-countFrom}
 use Rattle.judge.proofs.Parts.{asc-count, below-count}
 use Rattle.judge.proofs.Grouped.{runs-ids, below-ids}
 use Rattle.set_format.proofs.Missing.{missing-asc, missing-below, missing-length, missing-back, missing-count, missing-listed}

@@ -5,9 +5,9 @@ use Rattle.format.specs.Ids.{countBelow}
 use Rattle.format.specs.Pairs.{Asc, Below}
 use Rattle.format.specs.SetBytes.{begins, missing, past}
 use Rattle.format.specs.Walk.{listed}
-use Rattle.format.proofs.Cases.{below-or, equal-or}
-use Rattle.format.proofs.Place.{listed-higher}
-use Rattle.format.proofs.Places.{asc-weaken, below-shift}
+use Rattle.laws.proofs.Cases.{below-or, equal-or}
+use Rattle.laws.proofs.Place.{listed-higher}
+use Rattle.laws.proofs.Places.{asc-weaken, below-shift}
 
 -- ---- its equations
 

@@ -11,12 +11,12 @@ use Rattle.format.specs.Refusals.{andThen, done, need, refused}
 use Rattle.format.specs.Runs.{AllFine, AscBlocks, Fine}
 use Rattle.format.specs.SetBytes.{setBlock, setBlockAs, setBytes, setData, setKind, setList}
 use Rattle.format.specs.SetCalls.{SetHead, blockFrom, blocksFrom, dataFrom, kindFrom, lengthFrom, listLengthOk, setDataOk, setEnd, setIds, setPlaces, setRun}
-use Rattle.format.proofs.Header.{number-at}
-use Rattle.format.proofs.Jumps.{asc-blocks}
-use Rattle.format.proofs.Minimal.{number-is}
-use Rattle.format.proofs.Retired.{blocks-few}
-use Rattle.format.proofs.Runs.{fine-runs, ids-runs}
-use Rattle.format.proofs.Tests.{both-true, needed, passed, result}
+use Rattle.laws.proofs.Header.{number-at}
+use Rattle.laws.proofs.Jumps.{asc-blocks}
+use Rattle.laws.proofs.Minimal.{number-is}
+use Rattle.laws.proofs.Retired.{blocks-few}
+use Rattle.laws.proofs.Runs.{fine-runs, ids-runs}
+use Rattle.laws.proofs.Tests.{both-true, needed, passed, result}
 use Rattle.judge.proofs.Grouped.{asc-ids, below-ids, runs-ids}
 use Rattle.set_format.proofs.Data.{Held, Passes, fits, held, kind-le, list-short, other-kind, passes}
 

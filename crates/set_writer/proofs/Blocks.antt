@@ -9,9 +9,9 @@ use Rattle.format.specs.Pairs.{Below, Asc}
 use Rattle.format.specs.Runs.{Fine}
 use Rattle.format.specs.SetBytes.{missing, setKind, setList, setData, setBlockAs, setBlock}
 use Rattle.format.specs.SetCalls.{setDataBytes}
-use Rattle.format.proofs.Digits.{length-digits}
-use Rattle.format.proofs.Places.{asc-length}
-use Rattle.format.proofs.Stores.{sets-then}
+use Rattle.laws.proofs.Digits.{length-digits}
+use Rattle.laws.proofs.Places.{asc-length}
+use Rattle.laws.proofs.Stores.{sets-then}
 use Rattle.set_format.proofs.Missing.{missing-length}
 use Rattle.set_format.proofs.Data.{by-count, kind-listed, kind-missing, kind-bitmap, kind-le, length-shorts-bytes}
 use Rattle.block_writer.specs.Part.{placesFrom, runOf, bitsOf}

@@ -3,7 +3,7 @@ use Rattle.format.specs.Kit.{_≡_, sym, ap, ap₂, _∙_, subst, List, [], _�
 use Rattle.format.specs.Bytes.{low, bytesOf, countFrom}
 use Rattle.format.specs.Pairs.{Asc}
 use Rattle.format.specs.SetBytes.{missing}
-use Rattle.format.proofs.Section.{length-countFrom}
+use Rattle.laws.proofs.Section.{length-countFrom}
 use Rattle.set_format.proofs.Data.{length-shorts-bytes}
 use Rattle.set_format.proofs.Missing.{missing-end, missing-none, missing-hit, missing-skip}
 use Rattle.block_writer.specs.Part.{placesFrom}

@@ -8,9 +8,9 @@ use Rattle.format.specs.Pairs.{ValidIds}
 use Rattle.format.specs.Runs.{AllFine}
 use Rattle.format.specs.Writer.{orderFault, rangeFault, writeReply, writeOut}
 use Rattle.format.specs.SetBytes.{setBlock, setBytes, setWrite}
-use Rattle.format.proofs.Retired.{blocks-few}
-use Rattle.format.proofs.Stores.{sets-then, sets-front}
-use Rattle.format.proofs.Unique.{ordered, ranged}
+use Rattle.laws.proofs.Retired.{blocks-few}
+use Rattle.laws.proofs.Stores.{sets-then, sets-front}
+use Rattle.laws.proofs.Unique.{ordered, ranged}
 use Rattle.set_format.proofs.Demands.{written, no-room}
 use Rattle.block_writer.specs.Part.{runOf}
 use Rattle.section_writer.specs.Good.{Good, part, RunAt}

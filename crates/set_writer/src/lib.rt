@@ -9,13 +9,13 @@ ghost use Rattle.format.specs.Ids.{runs};
 ghost use Rattle.format.specs.Runs.{Fine};
 ghost use Rattle.format.specs.Writer.{writeReply, writeOut};
 ghost use Rattle.format.specs.SetBytes.{missing, setData, setBlock, setBytes, setWrite};
-ghost use Rattle.format.specs.Replies.{replyOf};
+ghost use Rattle.answers.specs.Replies.{replyOf};
 ghost use Rattle.block_writer.specs.Part.{placesFrom, runOf, From};
 ghost use Rattle.section_writer.specs.Good.{Good};
 ghost use Rattle.set_writer.specs.Head.{listLong, headBytes, HeadOf};
+use answers::Refusal;
+use answers::Reply;
 use blocks::Block;
-use format::Refusal;
-use format::Reply;
 use set_blocks::SetBlock;
 use writer::Fault;
 

@@ -14,18 +14,18 @@ use Rattle.format.specs.Check.{accepted, check, reading, readReply, idsAfter, v
 use Rattle.format.specs.LookUp.{stepProbes, lookUp, lookUpProbes}
 use Rattle.format.specs.Walk.{walk, wordless, words, strideWords, probes, listAnswer}
 use Rattle.format.specs.FirstBetween.{firstBetween, firstIn}
-use Rattle.format.specs.Replies.{replyOf, answerOf, betweenOf, Probed}
-use Rattle.format.specs.declared.Reply.{Reply}
-use Rattle.format.specs.declared.Answer as An
-use Rattle.format.specs.declared.Answer.{Answer}
-use Rattle.format.specs.declared.Between.{Between}
-use Rattle.format.proofs.Tests.{result, needed, given-some, passed}
-use Rattle.format.proofs.Editions.{lawful-reader, found-number}
-use Rattle.format.proofs.Unique.{written-valid, is-read}
-use Rattle.format.proofs.HeaderFaults.{BrokenAt, EndsAt, number-fault, short-fault, check-from, reading-from, look-up-from}
-use Rattle.format.proofs.Probes.{step-probes-few, opened-probes, look-up-probes-few, accepted-probes}
-use Rattle.format.proofs.FirstBetween.{accepted-between, other-between}
-use Rattle.format.proofs.Demands.{written-told, checked-all, read-back-all, accepted-answers}
+use Rattle.answers.specs.Replies.{replyOf, answerOf, betweenOf, Probed}
+use Rattle.answers.specs.declared.Reply.{Reply}
+use Rattle.answers.specs.declared.Answer as An
+use Rattle.answers.specs.declared.Answer.{Answer}
+use Rattle.answers.specs.declared.Between.{Between}
+use Rattle.laws.proofs.Tests.{result, needed, given-some, passed}
+use Rattle.laws.proofs.Editions.{lawful-reader, found-number}
+use Rattle.laws.proofs.Unique.{written-valid, is-read}
+use Rattle.laws.proofs.HeaderFaults.{BrokenAt, EndsAt, number-fault, short-fault, check-from, reading-from, look-up-from}
+use Rattle.laws.proofs.Probes.{step-probes-few, opened-probes, look-up-probes-few, accepted-probes}
+use Rattle.laws.proofs.FirstBetween.{accepted-between, other-between}
+use Rattle.laws.proofs.Demands.{written-told, checked-all, read-back-all, accepted-answers}
 use Rattle.signalfern.proofs.Outputs.{output-kept, output-put, output-is}
 
 -- ---- demand 1: a refused call changes no byte that it was lent

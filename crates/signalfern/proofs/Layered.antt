@@ -9,11 +9,11 @@ use Rattle.format.specs.Check.{check}
 use Rattle.format.specs.Walk.{walk}
 use Rattle.format.specs.Layered.{Layer, machine, correction, ofLayer, LayeredLook, foundIn, absentIn, refusedBy, lookUpLayered, lookUpLayeredIn}
 use Rattle.format.specs.Layered.{noPart, layeredPart, IsPart, listsAnswer, listsPart, walksAnswer, wordlessIn}
-use Rattle.format.specs.Replies.{replyOf}
-use Rattle.format.specs.declared.Reply.{Reply}
-use Rattle.format.proofs.Editions.{lawful-reader}
-use Rattle.format.proofs.Demands.{Holds, accepted-answers}
-use Rattle.format.proofs.Layered as Ld
+use Rattle.answers.specs.Replies.{replyOf}
+use Rattle.answers.specs.declared.Reply.{Reply}
+use Rattle.laws.proofs.Editions.{lawful-reader}
+use Rattle.laws.proofs.Demands.{Holds, accepted-answers}
+use Rattle.laws.proofs.Layered as Ld
 use Rattle.layered.specs.Answers.{layeredOf}
 use Rattle.layered.specs.declared.Layered.{Layered}
 use Rattle.signalfern.proofs.Demands.{Held, check-holds}

@@ -2,8 +2,8 @@
 use Rattle.format.specs.Kit.{_≡_, refl, ap, _∙_, List, ℕ, arith, length, take, drop, take-at}
 use Rattle.format.specs.Refusals.{Outcome, done, refused}
 use Rattle.format.specs.Writer.{writeReply, writeOut}
-use Rattle.format.specs.Replies.{replyOf}
-use Rattle.format.specs.declared.Reply.{Reply}
+use Rattle.answers.specs.Replies.{replyOf}
+use Rattle.answers.specs.declared.Reply.{Reply}
 
 module _ {A : Type 0} (out out′ : List A) (r : Reply) where
   pub output-kept : (o : Outcome (List A)) → replyOf r ≡ writeReply o → out′ ≡ writeOut o out → (why w : ℕ) → replyOf r ≡ refused why w → out′ ≡ out

@@ -8,12 +8,12 @@ use Rattle.format.specs.Check.{check}
 use Rattle.format.specs.LookUp.{Look, lookUp}
 use Rattle.format.specs.Walk.{listAnswer}
 use Rattle.format.specs.Page.{placeKind, placeOrdinal, placeValue, page, pageReply, pageAfter}
-use Rattle.format.specs.Replies.{replyOf, answerOf}
-use Rattle.format.specs.declared.Reply.{Reply}
-use Rattle.format.specs.declared.Answer.{Answer}
-use Rattle.format.proofs.Editions.{lawful-reader}
-use Rattle.format.proofs.Demands.{accepted-answers}
-use Rattle.format.proofs.Paged.{enough, place-holds}
+use Rattle.answers.specs.Replies.{replyOf, answerOf}
+use Rattle.answers.specs.declared.Reply.{Reply}
+use Rattle.answers.specs.declared.Answer.{Answer}
+use Rattle.laws.proofs.Editions.{lawful-reader}
+use Rattle.laws.proofs.Demands.{accepted-answers}
+use Rattle.laws.proofs.Paged.{enough, place-holds}
 use Rattle.signalfern.proofs.Demands.{check-holds}
 
 -- place i shows an answer

@@ -10,12 +10,12 @@ use Rattle.format.specs.Column.{column}
 use Rattle.format.specs.Plan.{planOk, planned, planEdition, plan}
 use Rattle.format.specs.Writer.{writePlanned, write, writeReply, writeOut}
 use Rattle.format.specs.Check.{check, reading, readReply, idsAfter, valuesAfter}
-use Rattle.format.specs.Replies.{replyOf}
-use Rattle.format.specs.declared.Reply.{Reply}
-use Rattle.format.proofs.Cases.{false-true}
-use Rattle.format.proofs.Unique.{written-valid}
-use Rattle.format.proofs.Plans.{proposes, planned-is, planned-passes, planned-write, own-planned, planned-taken, write-never-plan}
-use Rattle.format.proofs.Demands.{told, checked-all, read-back-all}
+use Rattle.answers.specs.Replies.{replyOf}
+use Rattle.answers.specs.declared.Reply.{Reply}
+use Rattle.laws.proofs.Cases.{false-true}
+use Rattle.laws.proofs.Unique.{written-valid}
+use Rattle.laws.proofs.Plans.{proposes, planned-is, planned-passes, planned-write, own-planned, planned-taken, write-never-plan}
+use Rattle.laws.proofs.Demands.{told, checked-all, read-back-all}
 use Rattle.signalfern.proofs.Outputs.{output-kept, output-put, output-is}
 use Rattle.signalfern.proofs.Demands.{Filled, filled}
 

@@ -5,10 +5,10 @@ use Rattle.format.specs.Limits.{powerOk}
 use Rattle.format.specs.Refusals.{done}
 use Rattle.format.specs.Pairs.{Below}
 use Rattle.format.specs.Judge.{leftOver, judgeSection}
-use Rattle.format.specs.Replies.{orderOf, reasonNumber, judgementOf}
-use Rattle.format.specs.declared.ByteOrder.{ByteOrder}
-use Rattle.format.specs.declared.Judgement.{Judgement}
-use Rattle.format.specs.declared.Reason.{Reason}
+use Rattle.answers.specs.Replies.{orderOf, reasonNumber, judgementOf}
+use Rattle.answers.specs.declared.ByteOrder.{ByteOrder}
+use Rattle.answers.specs.declared.Judgement.{Judgement}
+use Rattle.answers.specs.declared.Reason.{Reason}
 use Rattle.judge.proofs.Judged.{SectionIn}
 use Rattle.judge.proofs.Why.{Why}
 use Rattle.judge.proofs.Verdicts.{limitsOk, accepted, faulty, header}

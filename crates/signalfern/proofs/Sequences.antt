@@ -9,12 +9,12 @@ use Rattle.format.specs.Opening.{Opened}
 use Rattle.format.specs.Check.{check}
 use Rattle.format.specs.Next as Nx
 use Rattle.format.specs.Next.{next, nextIn, lastAfter, listNext, inSequence}
-use Rattle.format.specs.Replies.{replyOf, candidateOf}
-use Rattle.format.specs.declared.Reply.{Reply}
-use Rattle.format.specs.declared.Next.{Next}
-use Rattle.format.proofs.Editions.{lawful-reader}
-use Rattle.format.proofs.InTurn.{opened-next}
-use Rattle.format.proofs.Sequences.{accepted-next}
+use Rattle.answers.specs.Replies.{replyOf, candidateOf}
+use Rattle.answers.specs.declared.Reply.{Reply}
+use Rattle.answers.specs.declared.Next.{Next}
+use Rattle.laws.proofs.Editions.{lawful-reader}
+use Rattle.laws.proofs.InTurn.{opened-next}
+use Rattle.laws.proofs.Sequences.{accepted-next}
 use Rattle.signalfern.proofs.Demands.{check-holds}
 
 -- a target, and what the call for it answered

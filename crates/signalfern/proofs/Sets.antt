@@ -12,13 +12,13 @@ use Rattle.format.specs.LookUp.{Look, lookUp}
 use Rattle.format.specs.SetBytes.{setBytes, setWrite}
 use Rattle.format.specs.SetCalls as Sc
 use Rattle.format.specs.SetCalls.{setCheck, memberIn, setFind, asMember}
-use Rattle.format.specs.Replies.{replyOf, answerOf, memberOf}
-use Rattle.format.specs.declared.Reply.{Reply}
-use Rattle.format.specs.declared.Answer.{Answer}
-use Rattle.format.specs.declared.Member.{Member}
-use Rattle.format.proofs.Editions.{knows-all, lawful, lawful-reader}
-use Rattle.format.proofs.Open.{opened-ok}
-use Rattle.format.proofs.Unique.{is-read}
+use Rattle.answers.specs.Replies.{replyOf, answerOf, memberOf}
+use Rattle.answers.specs.declared.Reply.{Reply}
+use Rattle.answers.specs.declared.Answer.{Answer}
+use Rattle.answers.specs.declared.Member.{Member}
+use Rattle.laws.proofs.Editions.{knows-all, lawful, lawful-reader}
+use Rattle.laws.proofs.Open.{opened-ok}
+use Rattle.laws.proofs.Unique.{is-read}
 use Rattle.set_format.proofs.Faults.{BrokenAt, check-stops, find-stops, number-place, short-count}
 use Rattle.set_format.proofs.Demands.{written, written-valid, checked, SetOf, accepts-sets, sought, checked-finds, refused-alike, alike}
 use Rattle.signalfern.proofs.Outputs.{output-kept, output-put, output-is}

@@ -17,18 +17,18 @@ ghost use Rattle.format.specs.Layered.{lookUpLayered, lookUpLayeredIn, layeredP
 ghost use Rattle.format.specs.SetBytes.{setWrite};
 ghost use Rattle.format.specs.SetCalls.{setCheck, setFind};
 ghost use Rattle.format.specs.Judge.{judgeSection};
-ghost use Rattle.format.specs.Replies.{replyOf, answerOf, candidateOf, betweenOf, memberOf, Probed, orderOf, judgementOf};
+ghost use Rattle.answers.specs.Replies.{replyOf, answerOf, candidateOf, betweenOf, memberOf, Probed, orderOf, judgementOf};
 ghost use Rattle.column.specs.Opened.{columnOf};
 ghost use Rattle.layered.specs.Answers.{layeredOf, partOf};
+use answers::Answer;
+use answers::Between;
+use answers::ByteOrder;
+use answers::Cursor;
+use answers::Judgement;
+use answers::Member;
+use answers::Next;
+use answers::Reply;
 use column::Column;
-use format::Answer;
-use format::Between;
-use format::ByteOrder;
-use format::Cursor;
-use format::Judgement;
-use format::Member;
-use format::Next;
-use format::Reply;
 use layered::Layered;
 use layered::Part;
 

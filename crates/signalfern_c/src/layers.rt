@@ -1,93 +1,20 @@
-// The calls on a machine column and a correction (document 02, [10]). A part is told to C by numbers: no reference is handed out.
+// The calls on a machine column and a correction (document 02, [10]).
 ghost use mathlib.Core.Path.{_≡_};
 ghost use Rattle.format.specs.Editions.{editions};
 ghost use Rattle.format.specs.Layered.{lookUpLayered, lookUpLayeredIn, layeredPart};
-ghost use Rattle.layered.specs.Answers.{layerOf, layeredOf};
-ghost use Rattle.signalfern_c.specs.Boundary.{openedC};
-ghost use Rattle.signalfern_c.specs.Layers.{layerC, layeredC, partC};
-use super::CColumn;
-use super::column_in;
-use layered::Layer;
-use layered::Layered;
-
-// signalfern_layered
-#[repr(C)]
-pub struct CLayered {
-    pub kind: u64,
-    pub number: u64,
-    pub column: u64,
-    pub ordinal: u64,
-    pub value: i64,
-    pub machine_words: u64,
-    pub correction_words: u64,
-}
-
-// signalfern_part
-#[repr(C)]
-pub struct CPart {
-    pub column: u64,
-    pub start: u64,
-    pub len: u64,
-}
-
-fn layer_c(layer: Layer) -> u64
-    ensures { λ r. ⌜ r ≡ layerC (layerOf layer) ⌝ }
-{
-    match layer {
-        Layer::Machine => 0,
-        Layer::Correction => 1,
-    }
-}
-
-fn layered_c(answer: Layered) -> CLayered
-    ensures { λ r. ⌜ r ≡ layeredC (layeredOf answer) ⌝ }
-{
-    match answer {
-        Layered::Found {
-            layer,
-            ordinal,
-            value,
-            machine_words,
-            correction_words,
-        } => CLayered {
-            kind: 0,
-            number: 0,
-            column: layer_c(layer),
-            ordinal,
-            value,
-            machine_words,
-            correction_words,
-        },
-        Layered::Absent {
-            machine_words,
-            correction_words,
-        } => CLayered {
-            kind: 1,
-            number: 0,
-            column: 0,
-            ordinal: 0,
-            value: 0,
-            machine_words,
-            correction_words,
-        },
-        Layered::Refused(layer, why) => CLayered {
-            kind: why.number(),
-            number: why.number_with(),
-            column: layer_c(layer),
-            ordinal: 0,
-            value: 0,
-            machine_words: 0,
-            correction_words: 0,
-        },
-    }
-}
+ghost use Rattle.boundary.specs.Boundary.{openedC};
+ghost use Rattle.boundary.specs.Layers.{layeredC, partC};
+use boundary::CColumn;
+use boundary::layers;
+use boundary::layers::CLayered;
+use boundary::layers::CPart;
 
 #[no_mangle]
 pub extern "C" fn signalfern_look_up_layered(machine: &[u8], correction: &[u8], id: u32) -> CLayered
     ensures { λ r. ⌜ r ≡ layeredC (lookUpLayered editions (now (machine .entry)) (now (correction .entry)) id) ⌝ }
 {
     let answer = signalfern::look_up_layered(machine, correction, id);
-    layered_c(answer)
+    layers::layered_c(answer)
 }
 
 #[no_mangle]
@@ -102,10 +29,10 @@ pub extern "C" fn signalfern_look_up_layered_in(
         ⌜ r
         ≡ layeredC (lookUpLayeredIn (now (machine .entry)) (openedC «machine_column») (now (correction .entry)) (openedC «correction_column») id) ⌝ }
 {
-    let below = column_in(machine_column);
-    let above = column_in(correction_column);
+    let below = boundary::column_in(machine_column);
+    let above = boundary::column_in(correction_column);
     let answer = signalfern::look_up_layered_in(below, machine, above, correction, id);
-    layered_c(answer)
+    layers::layered_c(answer)
 }
 
 #[no_mangle]
@@ -113,10 +40,5 @@ pub extern "C" fn signalfern_layered_values(machine: &[u8], correction: &[u8], i
     ensures { λ r. ⌜ r ≡ partC (layeredPart editions (now (machine .entry)) (now (correction .entry)) id) ⌝ }
 {
     let part = signalfern::layered_part(machine, correction, id);
-    let layer = part.layer;
-    CPart {
-        column: layer_c(layer),
-        start: part.start as u64,
-        len: part.len as u64,
-    }
+    layers::part_c(part)
 }

@@ -3,35 +3,9 @@ ghost use mathlib.Core.Path.{_≡_};
 ghost use lib.ListN.{length};
 ghost use Rattle.format.specs.Editions.{editions};
 ghost use Rattle.format.specs.Page.{placeKind, placeOrdinal, placeValue, page, pageReply, pageAfter};
-ghost use Rattle.format.specs.Replies.{replyOf};
-ghost use Rattle.signalfern_c.specs.Boundary.{pageC};
-use format::Reply;
-
-// signalfern_page
-#[repr(C)]
-pub struct CPage {
-    pub refusal: u64,
-    pub number: u64,
-    pub words: u64,
-}
-
-// For so many ids.
-fn page_c(reply: Reply, n: usize) -> CPage
-    ensures { λ r. ⌜ r ≡ pageC n (replyOf reply) ⌝ }
-{
-    match reply {
-        Reply::Done(words) => CPage {
-            refusal: 0,
-            number: n as u64,
-            words,
-        },
-        Reply::Refused(why) => CPage {
-            refusal: why.number(),
-            number: why.number_with(),
-            words: 0,
-        },
-    }
-}
+ghost use Rattle.boundary.specs.Boundary.{pageC};
+use boundary::pages;
+use boundary::pages::CPage;
 
 #[no_mangle]
 pub extern "C" fn signalfern_look_up_page(
@@ -60,5 +34,5 @@ pub extern "C" fn signalfern_look_up_page(
 {
     let n = ids.len();
     let reply = signalfern::look_up_page(bytes, ids, ordinals, values, kinds);
-    page_c(reply, n)
+    pages::page_c(reply, n)
 }

@@ -3,9 +3,8 @@ ghost use mathlib.Core.Path.{_≡_};
 ghost use lib.ListN.{length};
 ghost use Rattle.format.specs.Plan.{plan};
 ghost use Rattle.format.specs.Writer.{writePlanned, writeReply, writeOut};
-ghost use Rattle.signalfern_c.specs.Boundary.{replyC};
-use super::CReply;
-use super::reply_c;
+ghost use Rattle.boundary.specs.Boundary.{replyC};
+use boundary::CReply;
 
 #[no_mangle]
 pub extern "C" fn signalfern_write_planned(
@@ -22,7 +21,7 @@ pub extern "C" fn signalfern_write_planned(
         ≡ writeOut (writePlanned power (now (ids .entry)) (now (values .entry)) (now (table .entry)) (length (now (out .entry)))) (now (out .entry)) ⌝ }
 {
     let reply = signalfern::write_planned(ids, values, table, power, out);
-    reply_c(reply)
+    boundary::reply_c(reply)
 }
 
 #[no_mangle]
@@ -31,5 +30,5 @@ pub extern "C" fn signalfern_plan(values: &[i64], table: &mut [i64]) -> CReply
     ensures proposed { λ _. ⌜ now (table .exit) ≡ writeOut (plan (now (values .entry)) (length (now (table .entry)))) (now (table .entry)) ⌝ }
 {
     let reply = signalfern::plan(values, table);
-    reply_c(reply)
+    boundary::reply_c(reply)
 }

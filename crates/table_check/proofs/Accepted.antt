@@ -9,16 +9,16 @@ use Rattle.format.specs.Pairs.{Below, Each, Fits}
 use Rattle.format.specs.Codec.{Fields}
 use Rattle.format.specs.Editions.{plain, table, codec}
 use Rattle.format.specs.Table.{tableOf, codeIn, codeWidth, tableFields, tableEntry, tableSection, ascends, allIn, tableOk, tabled, shorter}
-use Rattle.format.proofs.Tests.{both-true, true-both}
-use Rattle.format.proofs.Digits.{below-drop}
-use Rattle.format.proofs.Bits.{byte-at, packed-fetched, spare-packed, length-packed, length-unpacked, unpacked-packed, highOrder}
-use Rattle.format.proofs.Values.{each-at}
-use Rattle.format.proofs.Ascending.{in-at, code-at, table-is, all-each}
-use Rattle.format.proofs.SameMembers.{each-in, in-each}
-use Rattle.format.proofs.Table.{TableFacts, table-facts, facts-table, TableRules, length-table, has-code, code-small, codes-at}
-use Rattle.format.proofs.Plans.{shorter-by-table}
-use Rattle.format.proofs.Editions.{high-first-sound}
-use Rattle.format.proofs.Halves.{ValuesOf, Tested}
+use Rattle.laws.proofs.Tests.{both-true, true-both}
+use Rattle.laws.proofs.Digits.{below-drop}
+use Rattle.laws.proofs.Bits.{byte-at, packed-fetched, spare-packed, length-packed, length-unpacked, unpacked-packed, highOrder}
+use Rattle.laws.proofs.Values.{each-at}
+use Rattle.laws.proofs.Ascending.{in-at, code-at, table-is, all-each}
+use Rattle.laws.proofs.SameMembers.{each-in, in-each}
+use Rattle.laws.proofs.Table.{TableFacts, table-facts, facts-table, TableRules, length-table, has-code, code-small, codes-at}
+use Rattle.laws.proofs.Plans.{shorter-by-table}
+use Rattle.laws.proofs.Editions.{high-first-sound}
+use Rattle.laws.proofs.Halves.{ValuesOf, Tested}
 use Rattle.packings.specs.declared.Order as Od
 use Rattle.packings.specs.Packings.{spareOk}
 use Rattle.packings.proofs.Spare.{spare-sound, spare-complete}

@@ -3,8 +3,8 @@ use Rattle.format.specs.Kit.{_≡_, refl, sym, ap, _∙_, true, false, List, []
 use Rattle.format.specs.Kit.{add-one, arith, ltb, eqb, length, getD, drop, drop-cons, drop-of-length-le, set, length-set}
 use Rattle.format.specs.Kit.{lt-ltb, le-ltb, ltb-true, eq-eqb, ne-eqb}
 use Rattle.format.specs.Pairs.{Below}
-use Rattle.format.proofs.Cases.{equal-or}
-use Rattle.format.proofs.Tests.{both-true, true-both, or-left, or-right}
+use Rattle.laws.proofs.Cases.{equal-or}
+use Rattle.laws.proofs.Tests.{both-true, true-both, or-left, or-right}
 use Rattle.tables.specs.Marks.{marked}
 use Rattle.tables.proofs.Marks.{OneOf}
 use Rattle.table_check.specs.ValuesOk.{belowAll, oneOf, usedAll}

@@ -4,10 +4,10 @@ use Rattle.format.specs.Kit.{arith, ℤ, pos, length, take, drop, drop-cons, dr
 use Rattle.format.specs.Bytes.{bytesOf, low, fromLow, lowAt, untwos}
 use Rattle.format.specs.Pairs.{Below, Each, Fits}
 use Rattle.format.specs.Table.{tableEntry}
-use Rattle.format.proofs.Digits.{below-drop, below-take, digits-from, from-lt}
-use Rattle.format.proofs.Fits.{twos-untwos, untwos-fits}
-use Rattle.format.proofs.Table.{read-entry}
-use Rattle.format.proofs.Values.{each-at}
+use Rattle.laws.proofs.Digits.{below-drop, below-take, digits-from, from-lt}
+use Rattle.laws.proofs.Fits.{twos-untwos, untwos-fits}
+use Rattle.laws.proofs.Table.{read-entry}
+use Rattle.laws.proofs.Values.{each-at}
 use Rattle.table_check.specs.ValuesOk.{entriesFrom}
 
 pub length-entries : (i k : ℕ) (s : List ℕ) → length (entriesFrom i k s) ≡ k

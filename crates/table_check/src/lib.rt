@@ -7,10 +7,10 @@ ghost use lib.ListN.{length, drop};
 ghost use Rattle.format.specs.Limits.{maxCount};
 ghost use Rattle.format.specs.Bits.{unpacked, packedBytes};
 ghost use Rattle.format.specs.Editions.{table, codec};
-ghost use Rattle.format.specs.Replies.{fieldsOf};
+ghost use Rattle.answers.specs.Replies.{fieldsOf};
 ghost use Rattle.tables.specs.Marks.{marked};
 ghost use Rattle.table_check.specs.ValuesOk.{entriesFrom, belowAll, codesOk, valuesOk};
-use format::Fields;
+use answers::Fields;
 use packings::Order;
 
 // The table that a section begins with.

@@ -8,9 +8,9 @@ use Rattle.format.specs.Values.{fits64}
 use Rattle.format.specs.Editions.{table, plain, codec, highFirst}
 use Rattle.format.specs.Table.{tabled, tableValue}
 use Rattle.format.specs.Check.{allValues}
-use Rattle.format.proofs.Cases.{true-or, below-or}
-use Rattle.format.proofs.Bits.{within}
-use Rattle.format.proofs.Table.{TableRules, table-rules, code-narrow}
+use Rattle.laws.proofs.Cases.{true-or, below-or}
+use Rattle.laws.proofs.Bits.{within}
+use Rattle.laws.proofs.Table.{TableRules, table-rules, code-narrow}
 
 pub rules-are : (n : ℕ) (f : Fields) (v : ℕ) → codec table .fieldsOk n f v ≡ true → TableRules n f v
 unfolding codec

@@ -5,8 +5,8 @@ use Rattle.format.specs.Kit.{length-drop, le-refl, sets, putMid, postOf, post-i
 use Rattle.format.specs.Bytes.{bytesOf}
 use Rattle.format.specs.Bits.{packed, packedBytes}
 use Rattle.format.specs.Table.{codeIn, codeWidth, tableEntry, tableSection}
-use Rattle.format.proofs.Stores.{sets-front}
-use Rattle.format.proofs.Table.{length-table, length-section}
+use Rattle.laws.proofs.Stores.{sets-front}
+use Rattle.laws.proofs.Table.{length-table, length-section}
 
 -- an entry more
 pub entries-more : (us : List ℤ) (i : ℕ) → i < length us → bytesOf tableEntry (drop i us) ≡ tableEntry (getD us i (pos 0)) ++ bytesOf tableEntry

@@ -3,9 +3,9 @@ use Rattle.format.specs.Kit.{_≡_, refl, sym, ap, _∙_, true, List, [], _∷_
 use Rattle.format.specs.Kit.{length-map, subst}
 use Rattle.format.specs.Kit.{getD-set-same, getD-set-other, replicate, getD-replicate, length-replicate}
 use Rattle.format.specs.Table.{codeIn, ascends, allIn}
-use Rattle.format.proofs.Cases.{equal-or}
-use Rattle.format.proofs.Ascending.{In, in-or, in-at, in-none, all-each, each-all, Coded, coded, code-at}
-use Rattle.format.proofs.Table.{codes-at}
+use Rattle.laws.proofs.Cases.{equal-or}
+use Rattle.laws.proofs.Ascending.{In, in-or, in-at, in-none, all-each, each-all, Coded, coded, code-at}
+use Rattle.laws.proofs.Table.{codes-at}
 use Rattle.tables.specs.Marks.{marked, AllMarked}
 
 -- k is one of the codes

@@ -3,8 +3,8 @@ use Rattle.format.specs.Kit.{_≡_, refl, sym, ap, _∙_, subst, true, false, L
 use Rattle.format.specs.Kit.{ℤ, pos, ltZ, length, getD, take, drop, set, length-set, length-take-le, drop-cons, drop-set-lt, take-suc-set, getD-take}
 use Rattle.format.specs.Kit.{getD-drop, drop-of-length-le, length-append, length-drop, take-take, add-zero}
 use Rattle.format.specs.Table.{insert, insertAll, tableOf, codeIn, ascends}
-use Rattle.format.proofs.Ascending.{order-or, lt-not, lt-irrefl, insert-ascends}
-use Rattle.format.proofs.Cases.{true-or, below-or}
+use Rattle.laws.proofs.Ascending.{order-or, lt-not, lt-irrefl, insert-ascends}
+use Rattle.laws.proofs.Cases.{true-or, below-or}
 use Rattle.tables.specs.Holds.{Stands, Holds}
 
 -- ---- entries that move up

@@ -4,9 +4,9 @@ use Rattle.format.specs.Pairs.{Each, Fits}
 use Rattle.format.specs.Codec.{Fields}
 use Rattle.format.specs.Editions.{plain, table, codec}
 use Rattle.format.specs.Table.{tableOf, codeWidth, tableFields, tableBytes, tableSection, tableOk, tabled}
-use Rattle.format.proofs.Ascending.{table-few}
-use Rattle.format.proofs.Table.{TableFacts, table-facts, facts-table, length-section, code-narrow}
-use Rattle.format.proofs.Plans.{taken-fit}
+use Rattle.laws.proofs.Ascending.{table-few}
+use Rattle.laws.proofs.Table.{TableFacts, table-facts, facts-table, length-section, code-narrow}
+use Rattle.laws.proofs.Plans.{taken-fit}
 use Rattle.values.specs.Edition.{PlanFor}
 
 -- ---- a plan

@@ -5,8 +5,8 @@ use Rattle.format.specs.Codec.{Codec, Fields, scaled}
 use Rattle.format.specs.ValueRuns.{runLength, directoryLength, summaryAt, inRun}
 use Rattle.format.specs.Table.{tableValue}
 use Rattle.format.specs.Editions.{Edition, plain, lucene, runs, table, codec}
-use Rattle.format.proofs.Table.{TableRules}
-use Rattle.format.proofs.Editions.{runs-value}
+use Rattle.laws.proofs.Table.{TableRules}
+use Rattle.laws.proofs.Editions.{runs-value}
 use Rattle.packings.specs.declared.Order as Od
 use Rattle.packings.specs.Packings.{packingOf}
 use Rattle.scaled_values.specs.declared.slots.Slotted.{Slotted}

@@ -1,6 +1,6 @@
 -- The tests of each edition take just what some values are written as. Assumes nothing.
 use Rattle.format.specs.Editions.{Edition, plain, lucene, runs, table, codec}
-use Rattle.format.proofs.Halves.{Tested}
+use Rattle.laws.proofs.Halves.{Tested}
 use Rattle.packings.specs.declared.Order as Od
 use Rattle.scaled_check.proofs.Accepted.{scaled-tested}
 use Rattle.run_check.proofs.Accepted.{runs-tested}

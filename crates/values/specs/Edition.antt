@@ -14,7 +14,7 @@ use Rattle.table_values.specs.Codes.{codeValue}
 use Rattle.table_check.specs.ValuesOk as Table
 use Rattle.values.specs.declared.Edition as Ed
 use Rattle.values.specs.declared.Layout as La
-pub use Rattle.format.specs.Replies.{fieldsOf, fetchedOf}
+pub use Rattle.answers.specs.Replies.{fieldsOf, fetchedOf}
 
 abbrev pub editionOf : Ed.Edition → Edition
 editionOf Ed.Edition.Plain = plain

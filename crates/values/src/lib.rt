@@ -13,8 +13,8 @@ ghost use Rattle.format.specs.Editions.{plain, table, codec};
 ghost use Rattle.format.specs.Check.{allValues};
 ghost use Rattle.scaled_values.specs.Slots.{Stands, slotNumber};
 ghost use Rattle.values.specs.Edition.{editionOf, layoutOf, orderOf, Readable, storedValue, SlotOf, fieldsOf, fetchedOf, tests, PlanFor};
-pub use format::Fetched;
-pub use format::Fields;
+pub use answers::Fetched;
+pub use answers::Fields;
 use packings::Order;
 use scaled_values::Slotted;
 

@@ -3,7 +3,7 @@ use Rattle.format.specs.Kit.{_≡_, refl, true, false, List, [], _∷_, none, s
 use Rattle.format.specs.Kit.{drop-of-length-le, drop-cons, lt-ltb, le-ltb, le-leb}
 use Rattle.format.specs.Limits.{maxId}
 use Rattle.format.specs.Pairs.{Asc}
-use Rattle.format.proofs.Places.{asc-from}
+use Rattle.laws.proofs.Places.{asc-from}
 use Rattle.format.specs.Writer.{notAbove, orderFault, rangeFault}
 
 -- ---- the loops

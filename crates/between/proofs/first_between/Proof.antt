@@ -2,7 +2,7 @@
 use Rattle.format.specs.Kit.{sym, ap₂, _∙_, ℤ, needs}
 use Rattle.format.specs.Editions.{editions}
 use Rattle.format.specs.FirstBetween.{firstBetweenIn}
-use Rattle.format.proofs.FirstBetween.{opened-between, between-says}
+use Rattle.laws.proofs.FirstBetween.{opened-between, between-says}
 use Rattle.signed.proofs.Signs.{read-back}
 use Rattle.column.specs.Opened.{columnOf}
 use Rattle.column.proofs.Facts.{opened-as, refused-as}

@@ -3,7 +3,7 @@ use Rattle.format.specs.Kit.{_≡_, sym, ap₂, _∙_, true, ℤ, needs, not-tr
 use Rattle.format.specs.Editions.{runs, numberOf}
 use Rattle.format.specs.Opening.{headOk, lengthOk}
 use Rattle.format.specs.FirstBetween.{betweenSteps}
-use Rattle.format.proofs.Editions.{one-number}
+use Rattle.laws.proofs.Editions.{one-number}
 use Rattle.signed.proofs.Signs.{read-back}
 use Rattle.values.specs.Edition.{editionOf}
 use Rattle.column.specs.Opened.{columnOf}

@@ -4,7 +4,7 @@ use Rattle.format.specs.Refusals.{done}
 use Rattle.format.specs.ValueRuns.{runCount, summaryAt}
 use Rattle.format.specs.Editions.{Edition, runs, codec}
 use Rattle.format.specs.FirstBetween.{runsFrom, betweenSteps}
-use Rattle.format.proofs.Rules.{head-facts}
+use Rattle.laws.proofs.Rules.{head-facts}
 use Rattle.signed.specs.Sign.{biased, unbiased}
 use Rattle.signed.proofs.Signs.{unbiased-biased, read-back}
 use Rattle.column.specs.Opened.{columnOf}

@@ -4,10 +4,10 @@ use Rattle.cases.proofs.borders.Statement.{statement}
 use Rattle.cases.proofs.borders.Tie as tie
 
 abbrev Inv-loop : tie.InvT-loop
-Inv-loop t₀ k₀ t3 t k = Unit {0}
+Inv-loop t more₀ k₀ t4 more k = Unit {0}
 
 abbrev μ-loop : tie.MeasureT-loop
-μ-loop t₀ k₀ t3 t k = 270 - k
+μ-loop t more₀ k₀ t4 more k = 270 - k
 
 pub borders-spec : {M : Type 1} → statement M
 borders-spec =

@@ -4,10 +4,10 @@ use Rattle.cases.proofs.widths.Statement.{statement}
 use Rattle.cases.proofs.widths.Tie as tie
 
 abbrev Inv-loop : tie.InvT-loop
-Inv-loop t₀ spare₀ t4 t spare = Unit {0}
+Inv-loop t more₀ spare₀ t5 more spare = Unit {0}
 
 abbrev μ-loop : tie.MeasureT-loop
-μ-loop t₀ spare₀ t4 t spare = 64 - spare
+μ-loop t more₀ spare₀ t5 more spare = 64 - spare
 
 pub widths-spec : {M : Type 1} → statement M
 widths-spec =

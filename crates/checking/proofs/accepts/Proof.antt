@@ -3,8 +3,8 @@ use Rattle.format.specs.Kit.{needs, _≡_, ap, _∙_, arith, not-true, not-fals
 use Rattle.format.specs.Editions.{editions, codec}
 use Rattle.format.specs.Rules.{Sound}
 use Rattle.format.specs.Check.{accepted}
-use Rattle.format.proofs.Digits.{below-all}
-use Rattle.format.proofs.Open.{sound}
+use Rattle.laws.proofs.Digits.{below-all}
+use Rattle.laws.proofs.Open.{sound}
 use Rattle.column.specs.Opened.{columnOf}
 use Rattle.checking.specs.Tests.{columnOk, isTaken}
 use Rattle.checking.proofs.Taken.{column-ok}

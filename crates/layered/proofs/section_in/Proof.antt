@@ -4,7 +4,7 @@ use Rattle.format.specs.Refusals.{done}
 use Rattle.format.specs.Editions.{editions}
 use Rattle.format.specs.Opening.{openColumn}
 use Rattle.format.specs.Layered.{sectionIn}
-use Rattle.format.proofs.Open.{sound}
+use Rattle.laws.proofs.Open.{sound}
 use Rattle.column.specs.Opened.{columnOf}
 use Rattle.column.proofs.Facts.{opened-as, refused-as}
 use Rattle.layered.specs.Answers.{layerOf}

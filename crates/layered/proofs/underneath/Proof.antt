@@ -2,8 +2,8 @@
 use Rattle.format.specs.Kit.{needs, sym, ap}
 use mir.Syntax.{w64}
 use mir.Facts.{toZ-ofZ}
-use Rattle.format.specs.Replies.{answerOf}
-use Rattle.format.specs.declared.Answer.{Answer}
+use Rattle.answers.specs.Replies.{answerOf}
+use Rattle.answers.specs.declared.Answer.{Answer}
 use Rattle.format.specs.Layered.{underneath}
 use Rattle.layered.proofs.underneath.Statement.{statement}
 use Rattle.layered.proofs.underneath.Tie as tie

@@ -7,27 +7,13 @@ use Rattle.lists.proofs.fill_values.Statement.{statement}
 use Rattle.lists.proofs.fill_values.Tie as tie
 
 abbrev Inv-loop : tie.InvT-loop
-Inv-loop values₀ signed₀ first n v x₀ i₀ values signed x i = (length values ≡ length values₀) × (length signed ≡ length signed₀)
+Inv-loop values₀ k i₀ i-end values i = length values ≡ length values₀
 
 abbrev μ-loop : tie.MeasureT-loop
-μ-loop values₀ signed₀ first n v x₀ i₀ values signed x i = n - i
+μ-loop values₀ k i₀ i-end values i = i-end - i
 
 pub fill-values-spec : {M : Type 1} → statement M
 fill-values-spec =
-    tie.close
-    (tie.spec
-    Inv-loop
-    μ-loop
-    (λ c. search needs)
-    (λ c κs. search needs)
-    (λ c κs. search needs)
-    (λ c κs. search needs)
-    (λ c κs. search needs)
-    (λ c κs. search needs)
-    (λ c κs. search needs)
-    (λ c. search needs)
-    (λ c. search needs)
-    (λ c. search needs)
-    (λ c. search needs)
-    (λ c. search needs)
-    (λ c. search needs))
+    tie.close (tie.spec Inv-loop μ-loop
+    (λ c. search needs) (λ c κs. search needs) (λ c. search needs) (λ c. search needs) (λ c. search needs) (λ c. search needs) (λ c. search needs)
+    (λ c. search needs) (λ c. search needs))

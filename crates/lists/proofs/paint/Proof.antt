@@ -7,22 +7,13 @@ use Rattle.lists.proofs.paint.Statement.{statement}
 use Rattle.lists.proofs.paint.Tie as tie
 
 abbrev Inv-loop : tie.InvT-loop
-Inv-loop out₀ n i₀ out i = length out ≡ length out₀
+Inv-loop out₀ i₀ i-end out i = length out ≡ length out₀
 
 abbrev μ-loop : tie.MeasureT-loop
-μ-loop out₀ n i₀ out i = n - i
+μ-loop out₀ i₀ i-end out i = i-end - i
 
 pub paint-spec : {M : Type 1} → statement M
 paint-spec =
-    tie.close
-    (tie.spec
-    Inv-loop
-    μ-loop
-    (λ c. search needs)
-    (λ c. search needs)
-    (λ c κs. search needs)
-    (λ c. search needs)
-    (λ c. search needs)
-    (λ c. search needs)
-    (λ c. search needs)
-    (λ c. search needs))
+    tie.close (tie.spec Inv-loop μ-loop
+    (λ c. search needs) (λ c. search needs) (λ c. search needs) (λ c. search needs) (λ c. search needs) (λ c. search needs) (λ c. search needs)
+    (λ c. search needs) (λ c. search needs))

@@ -2,7 +2,7 @@
 use Rattle.format.specs.Kit.{needs, sym, ap}
 use mir.Facts.{toZ-ofZ}
 use mir.Syntax.{w64}
-use Rattle.format.specs.Replies.{candidateOf}
+use Rattle.answers.specs.Replies.{candidateOf}
 use Rattle.next.proofs.Answers.{told-as, told-moved, sum-found, sum-none, sum-broken}
 use Rattle.next.proofs.answered.Statement.{statement}
 use Rattle.next.proofs.answered.Tie as tie

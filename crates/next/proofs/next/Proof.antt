@@ -4,7 +4,7 @@ use Rattle.format.specs.Limits.{maxId}
 use Rattle.format.specs.Refusals.{done}
 use Rattle.format.specs.Editions.{editions}
 use Rattle.format.specs.Opening.{openColumn}
-use Rattle.format.proofs.InTurn.{id-above, gone-back, not-opened, opened}
+use Rattle.laws.proofs.InTurn.{id-above, gone-back, not-opened, opened}
 use Rattle.column.specs.Opened.{columnOf}
 use Rattle.column.proofs.Facts.{opened-as, refused-as}
 use Rattle.lookup.proofs.Calls.{opened-fits}

@@ -2,7 +2,7 @@
 use Rattle.format.specs.Kit.{_≡_, sym, _∙_, true, false, leb, leb-true, le-leb, lt-leb, ltb-true, ltb-false, needs, not-true, not-false}
 use Rattle.format.specs.Limits.{maxId}
 use Rattle.format.specs.Opening.{headOk, lengthOk}
-use Rattle.format.proofs.InTurn.{id-above-in, gone-back-in, header-in, length-in, steps-in}
+use Rattle.laws.proofs.InTurn.{id-above-in, gone-back-in, header-in, length-in, steps-in}
 use Rattle.column.specs.Opened.{columnOf}
 use Rattle.next.proofs.Answers.{told-as}
 use Rattle.next.proofs.next_in.Statement.{statement}

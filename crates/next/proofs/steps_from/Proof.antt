@@ -6,7 +6,7 @@ use Rattle.format.specs.Refusals.{done}
 use Rattle.format.specs.Editions.{codec}
 use Rattle.format.specs.Opening.{valueOf}
 use Rattle.format.specs.Next.{noCandidate, nextSteps}
-use Rattle.format.proofs.Rules.{head-facts}
+use Rattle.laws.proofs.Rules.{head-facts}
 use Rattle.values.specs.Edition.{fetchedOf}
 use Rattle.column.specs.Opened.{columnOf}
 use Rattle.lookup.proofs.Whole.{Parted, id-part, id-length, value-length, value-read, value-fits, value-found, value-outside}

@@ -1,7 +1,7 @@
 -- `packing::number_of` meets its contract. Assumes nothing.
 use Rattle.format.specs.Kit.{needs, _≡_, refl, ap, _∙_, List, ℕ, _+_, _-_, _*_, _/_, _%_, _^_, _<_, arith, length, getD}
 use Rattle.format.specs.Bits.{bitAt, gather}
-use Rattle.format.proofs.Bits.{bitAt-lt}
+use Rattle.laws.proofs.Bits.{bitAt-lt}
 use Rattle.packing.specs.Turned.{turned}
 use Rattle.packing.specs.Ends.{EndsOf}
 use Rattle.packing.proofs.Swap.{turned-low}

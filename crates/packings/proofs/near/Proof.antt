@@ -3,7 +3,7 @@ use Rattle.format.specs.Kit.{_≡_, ap, _∙_, ℕ, _+_, _-_, _*_, _/_, _%_, _^
 use Rattle.format.specs.Bits.{bitAt, gather, fetched}
 use Rattle.format.specs.BitsLow.{bitLowAt, gatherLow, fetchedLow}
 use Rattle.format.specs.Editions.{highFirst, lowFirst}
-use Rattle.format.proofs.Bits.{gather-part, bitAt-lt}
+use Rattle.laws.proofs.Bits.{gather-part, bitAt-lt}
 use Rattle.low_packing.proofs.Words.{part-low}
 use Rattle.packings.proofs.near.Statement.{statement}
 use Rattle.packings.proofs.near.Tie as tie

@@ -1,6 +1,6 @@
 -- `packings::next_of` meets its contract. Assumes nothing.
 use Rattle.format.specs.Kit.{_≡_, sym, ap, _∙_, List, ℕ, _+_, _-_, _*_, _/_, _≤_, arith, length, take, drop, needs}
-use Rattle.format.proofs.Bits.{within}
+use Rattle.laws.proofs.Bits.{within}
 use Rattle.packing.proofs.Join.{window-inside}
 use Rattle.packings.specs.Packings.{packingOf}
 use Rattle.packings.proofs.Packings.{soundOf, reached, fetch-none}

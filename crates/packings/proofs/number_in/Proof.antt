@@ -4,7 +4,7 @@ use Rattle.format.specs.Bits.{bitAt, gather, fetched}
 use Rattle.format.specs.Bytes.{lowAt}
 use Rattle.format.specs.BitsLow.{bitLowAt, gatherLow, fetchedLow}
 use Rattle.format.specs.Editions.{highFirst, lowFirst}
-use Rattle.format.proofs.Taken.{gather-in-part}
+use Rattle.laws.proofs.Taken.{gather-in-part}
 use Rattle.low_packing.proofs.Words.{part-low, part-as-number}
 use Rattle.packings.specs.declared.Order as Od
 use Rattle.packings.specs.Packings.{Reach}

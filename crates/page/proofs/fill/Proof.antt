@@ -1,6 +1,6 @@
 -- `page::fill` meets its contract. Assumes nothing.
 use Rattle.format.specs.Kit.{needs, _≡_, sym, _∙_, subst, ⊎-elim, ℕ, _+_, _-_, _%_, _≤_, _<_, arith, length, getD, eqb-true, not-false}
-use Rattle.format.proofs.Tests.{both-true}
+use Rattle.laws.proofs.Tests.{both-true}
 use Rattle.column.specs.Opened.{columnOf}
 use Rattle.lookup.proofs.Calls.{opened-fits}
 use Rattle.page.specs.Marks.{BlockIs}

@@ -6,7 +6,7 @@ use Rattle.column.specs.Opened.{columnOf}
 use Rattle.column.proofs.Facts.{opened-as, refused-as}
 use Rattle.page.specs.Placed.{Room}
 use Rattle.format.specs.Editions.{editions}
-use Rattle.format.proofs.Paged.{few-ordinals, few-values, few-kinds}
+use Rattle.laws.proofs.Paged.{few-ordinals, few-values, few-kinds}
 use Rattle.page.proofs.Pages.{begins, ends, refused-so, done-so}
 use Rattle.page.proofs.look_up_page.Statement.{statement}
 use Rattle.page.proofs.look_up_page.Tie as tie

@@ -2,7 +2,7 @@
 use Rattle.format.specs.Kit.{needs, _≡_, refl, _-_, List, ℕ, arith, length}
 use Rattle.format.specs.Editions.{editions}
 use Rattle.format.specs.Opening.{openColumn}
-use Rattle.format.specs.Replies.{refusedAs}
+use Rattle.answers.specs.Replies.{refusedAs}
 use Rattle.page.proofs.Pages.{Going, Kept, begins, goes-on, stays, ends}
 use Rattle.page.proofs.refuse.Statement.{statement}
 use Rattle.page.proofs.refuse.Tie as tie

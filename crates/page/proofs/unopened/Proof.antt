@@ -2,7 +2,7 @@
 use Rattle.format.specs.Kit.{needs, sym, ap, _∙_, subst, arith}
 use Rattle.format.specs.Refusals.{Outcome, refused}
 use Rattle.format.specs.LookUp.{Look}
-use Rattle.format.specs.Replies.{refusalWith}
+use Rattle.answers.specs.Replies.{refusalWith}
 use Rattle.lookup.proofs.Calls.{id-above, not-opened}
 use Rattle.page.specs.Placed.{Holds}
 use Rattle.page.proofs.Pages.{number-small}

@@ -7,7 +7,7 @@ use Rattle.format.specs.Editions.{codec}
 use Rattle.format.specs.Opening.{valueOf}
 use Rattle.format.specs.LookUp.{Look}
 use Rattle.format.specs.Page.{placeOrdinal, placeValue, placeKind, placeWords}
-use Rattle.format.proofs.Rules.{head-facts}
+use Rattle.laws.proofs.Rules.{head-facts}
 use Rattle.values.specs.Edition.{fetchedOf}
 use Rattle.column.specs.Opened.{columnOf}
 use Rattle.lookup.proofs.Whole.{Parted, value-length, value-read, value-fits, value-found, value-outside}

@@ -4,7 +4,7 @@ use Rattle.format.specs.Bits.{packedBytes}
 use Rattle.format.specs.Codec.{Fields}
 use Rattle.format.specs.Editions.{codec}
 use Rattle.format.specs.Table.{valueShare, tableFields, tableBytes}
-use Rattle.format.specs.Replies.{fieldsOf}
+use Rattle.answers.specs.Replies.{fieldsOf}
 use Rattle.packings.specs.declared.Order as Od
 use Rattle.scaled_values.proofs.Facts.{FieldsOf, fields-are}
 use Rattle.plans.specs.Saves.{saves}

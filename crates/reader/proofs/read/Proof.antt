@@ -1,6 +1,6 @@
 -- `reader::read` meets its contract. Assumes nothing.
 use Rattle.format.specs.Kit.{refl, needs, length}
-use Rattle.format.specs.declared.Reply as Rp
+use Rattle.answers.specs.declared.Reply as Rp
 use Rattle.column.proofs.Facts.{opened-as, refused-as}
 use Rattle.reader.proofs.Answers.{refused-so, not-opened}
 use Rattle.reader.proofs.read.Statement.{statement}

@@ -5,8 +5,8 @@ use Rattle.format.specs.Editions.{editions}
 use Rattle.format.specs.Opening.{idPart}
 use Rattle.format.specs.Rules.{Sound}
 use Rattle.column.specs.Opened.{columnOf}
-use Rattle.format.proofs.Open.{sound}
-use Rattle.format.proofs.Digits.{below-all}
+use Rattle.laws.proofs.Open.{sound}
+use Rattle.laws.proofs.Digits.{below-all}
 use Rattle.reader.proofs.Decoded.{id-slice, ids-asked, ids-given}
 use Rattle.reader.proofs.read_ids.Statement.{statement}
 use Rattle.reader.proofs.read_ids.Tie as tie

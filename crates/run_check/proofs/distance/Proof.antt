@@ -3,7 +3,7 @@ use Rattle.format.specs.Kit.{_≡_, sym, ap₂, _∙_, ℕ, _-_, _≤_, _<_, _^
 use Rattle.format.specs.Values.{over}
 use Rattle.signed.specs.Sign.{unbiased}
 use Rattle.signed.proofs.Signs.{biased-unbiased, biased-over, unbiased-size}
-use Rattle.format.proofs.Values.{over-sym}
+use Rattle.laws.proofs.Values.{over-sym}
 use Rattle.run_check.proofs.distance.Statement.{statement}
 use Rattle.run_check.proofs.distance.Tie as tie
 

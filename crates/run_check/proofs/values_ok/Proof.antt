@@ -1,7 +1,7 @@
 -- `run_check::values_ok` meets its contract. Assumes nothing.
 use Rattle.format.specs.Kit.{_≡_, ap, _∙_, ℕ, List, _-_, arith, length, take, drop, take-all, length-drop, needs}
 use Rattle.format.specs.ValueRuns.{runCount}
-use Rattle.format.specs.Replies.{fieldsOf}
+use Rattle.answers.specs.Replies.{fieldsOf}
 use Rattle.run_values.proofs.Reached.{Rules, rules-kept}
 use Rattle.run_check.specs.RunsOk.{runsOk, valuesOk}
 use Rattle.run_check.proofs.values_ok.Statement.{statement}

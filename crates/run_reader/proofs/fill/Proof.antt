@@ -5,10 +5,10 @@ use Rattle.format.specs.Kit.{length-drop, drop-of-length-le, needs}
 use Rattle.format.specs.ValueRuns.{runLength, directoryLength, Summary, summaryAt, inRun}
 use Rattle.format.specs.Editions.{runs, codec}
 use Rattle.format.specs.Check.{allValues}
-use Rattle.format.specs.Replies.{fieldsOf}
+use Rattle.answers.specs.Replies.{fieldsOf}
 use Rattle.format.specs.Stores.{Fill}
-use Rattle.format.proofs.RoundTrip.{all-length}
-use Rattle.format.proofs.Stores.{begun, filled, sets-front}
+use Rattle.laws.proofs.RoundTrip.{all-length}
+use Rattle.laws.proofs.Stores.{begun, filled, sets-front}
 use Rattle.run_values.specs.Summaries.{summaryIs}
 use Rattle.run_values.proofs.Reached.{Rules, rules-kept}
 use Rattle.run_reader.proofs.Part.{its-values, run-more}

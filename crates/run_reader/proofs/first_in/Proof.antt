@@ -3,7 +3,7 @@ use Rattle.format.specs.Kit.{_≡_, sym, ap, _∙_, ℕ, _-_, _≤_, sub-zero, 
 use Rattle.format.specs.ValueRuns.{runCount, summaryAt}
 use Rattle.format.specs.Editions.{runs, codec}
 use Rattle.format.specs.FirstBetween.{skipped, runsFrom}
-use Rattle.format.specs.Replies.{fieldsOf}
+use Rattle.answers.specs.Replies.{fieldsOf}
 use Rattle.signed.specs.Sign.{unbiased}
 use Rattle.run_values.proofs.Reached.{Rules, rules-kept}
 use Rattle.run_reader.proofs.Left.{run-skipped, run-none, run-found, runs-end}

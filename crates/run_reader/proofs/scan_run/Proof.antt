@@ -5,9 +5,9 @@ use Rattle.format.specs.Refusals.{Outcome}
 use Rattle.format.specs.ValueRuns.{runLength, Summary, inRun}
 use Rattle.format.specs.Editions.{runs, codec}
 use Rattle.format.specs.FirstBetween.{between, scanFrom}
-use Rattle.format.specs.Replies.{fieldsOf, fetchedOf}
-use Rattle.format.proofs.Fits.{fits-size}
-use Rattle.format.proofs.Editions.{lawful}
+use Rattle.answers.specs.Replies.{fieldsOf, fetchedOf}
+use Rattle.laws.proofs.Fits.{fits-size}
+use Rattle.laws.proofs.Editions.{lawful}
 use Rattle.signed.specs.Sign.{unbiased}
 use Rattle.signed.proofs.Signs.{read-back}
 use Rattle.scaled_values.specs.Slots.{slotValue}

@@ -1,5 +1,5 @@
 -- `run_values::slot_in` meets its contract. Assumes nothing.
-use Rattle.format.specs.Kit.{_≡_, sym, _∙_, true, ℕ, _+_, _-_, _*_, _≤_, arith, length, length-drop, not-true, not-false, le-leb, needs}
+use Rattle.format.specs.Kit.{_≡_, sym, _∙_, true, _+_, _-_, _*_, _≤_, arith, length, length-drop, not-true, not-false, le-leb, needs}
 use Rattle.format.specs.Limits.{maxWidth}
 use Rattle.format.specs.Editions.{highFirst}
 use Rattle.run_values.specs.Summaries.{summaryIs, reachesIn}

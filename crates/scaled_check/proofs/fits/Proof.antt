@@ -1,6 +1,6 @@
 -- `scaled_check::fits` meets its contract. Assumes nothing.
 use Rattle.format.specs.Kit.{sym, ap, _∙_, needs}
-use Rattle.format.specs.Replies.{fetchedOf}
+use Rattle.answers.specs.Replies.{fetchedOf}
 use Rattle.scaled_check.proofs.Turns.{kept-in, kept-out}
 use Rattle.scaled_check.proofs.fits.Statement.{statement}
 use Rattle.scaled_check.proofs.fits.Tie as tie

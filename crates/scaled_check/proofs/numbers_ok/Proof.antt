@@ -2,7 +2,7 @@
 -- so far, with number i, what the definition makes of them, and goes on by one number's bits. Assumes nothing.
 use Rattle.format.specs.Kit.{sym, ap, _∙_, Bool, _&&_, _+_, _-_, _/_, _^_, _<_, ℕ, bitAnd, arith, pow-mono, pow-pos, needs, not-true, not-false, length}
 use Rattle.format.specs.Values.{fits64}
-use Rattle.format.specs.Replies.{fieldsOf}
+use Rattle.answers.specs.Replies.{fieldsOf}
 use Rattle.scaled_values.specs.Held.{valueFrom}
 use Rattle.scaled_values.proofs.Facts.{Rules, rules-kept}
 use Rattle.scaled_check.proofs.Turns.{Sizes, Turn, most-is, enough, first, room, next, ended, stops}

@@ -1,7 +1,7 @@
 -- `scaled_check::spread_ok` meets its contract. Assumes nothing.
 use Rattle.format.specs.Kit.{_≡_, sym, _∙_, _&&_, _-_, _*_, _^_, _≤_, mul-le-mul, arith, length, not-true, not-false, needs}
 use Rattle.format.specs.Limits.{maxCount, maxWidth}
-use Rattle.format.specs.Replies.{fieldsOf}
+use Rattle.answers.specs.Replies.{fieldsOf}
 use Rattle.scaled_values.specs.Held.{numbersIn}
 use Rattle.scaled_values.proofs.Facts.{Rules, rules-kept}
 use Rattle.scaled_check.specs.ValuesOk.{numbersOk, spreadOk}

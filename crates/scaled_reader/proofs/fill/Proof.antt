@@ -6,10 +6,10 @@ use mir.Syntax.{w64}
 use mir.Val.{toZ, ofZ}
 use mir.Facts.{toZ-ofZ}
 use Rattle.format.specs.Pairs.{Each, Fits}
-use Rattle.format.specs.Replies.{fieldsOf}
+use Rattle.answers.specs.Replies.{fieldsOf}
 use Rattle.format.specs.Stores.{Fill}
-use Rattle.format.proofs.Bits.{within}
-use Rattle.format.proofs.Stores.{begun, one-more, filled, sets-front}
+use Rattle.laws.proofs.Bits.{within}
+use Rattle.laws.proofs.Stores.{begun, one-more, filled, sets-front}
 use Rattle.packing.proofs.Join.{place-next}
 use Rattle.packings.specs.Packings.{packingOf}
 use Rattle.scaled_values.specs.Held.{numbersIn, valueFrom, valuesFrom}

@@ -3,11 +3,11 @@
 use Rattle.format.specs.Kit.{_≡_, refl, sym, ℕ, _+_, _-_, _*_, _%_, _^_, _≤_, _<_, zero-mul, arith, bitAnd, and-mask, length, drop, needs}
 use Rattle.packing.proofs.Join.{window-inside, place-on}
 use Rattle.format.specs.Stores.{Fill}
-use Rattle.format.specs.Replies.{fieldsOf}
+use Rattle.answers.specs.Replies.{fieldsOf}
 use Rattle.scaled_values.specs.Held.{numbersIn, valuesFrom}
 use Rattle.scaled_values.proofs.Facts.{rules-kept}
 use Rattle.scaled_reader.proofs.Each.{Four, four-at, four-more}
-use Rattle.format.proofs.Stores.{begun}
+use Rattle.laws.proofs.Stores.{begun}
 use Rattle.scaled_reader.proofs.fill_fours.Statement.{statement}
 use Rattle.scaled_reader.proofs.fill_fours.Tie as tie
 

@@ -4,12 +4,12 @@ use Rattle.format.specs.Kit.{_≡_, refl, sym, ap, subst, _∙_, List, _∷_, �
 use Rattle.format.specs.Kit.{zero-mul, add-zero, add-mul, mul-le-mul, arith, bitAnd, and-mask, ℤ, length, drop, needs}
 use Rattle.packing.proofs.Join.{window-inside}
 use Rattle.format.specs.Stores.{Fill}
-use Rattle.format.specs.Replies.{fieldsOf}
+use Rattle.answers.specs.Replies.{fieldsOf}
 use Rattle.scaled_values.specs.Held.{numbersIn, valueFrom, valuesFrom}
 use Rattle.scaled_values.proofs.Facts.{rules-kept}
 use Rattle.packings.specs.Packings.{packingOf, cut}
 use Rattle.scaled_reader.proofs.Each.{Sum, values-more, sum-at}
-use Rattle.format.proofs.Stores.{begun, one-more}
+use Rattle.laws.proofs.Stores.{begun, one-more}
 use Rattle.scaled_reader.proofs.fill_ones.Statement.{statement}
 use Rattle.scaled_reader.proofs.fill_ones.Tie as tie
 

@@ -1,7 +1,7 @@
 -- `scaled_values::length` meets its contract. Assumes nothing.
 use Rattle.format.specs.Kit.{sym, ap₂, _∙_, arith, ℕ, needs}
 use Rattle.format.specs.Bits.{packedBytes}
-use Rattle.format.specs.Replies.{fieldsOf}
+use Rattle.answers.specs.Replies.{fieldsOf}
 use Rattle.scaled_values.proofs.Facts.{FieldsOf, fields-are}
 use Rattle.scaled_values.proofs.Store.{length-section}
 use Rattle.scaled_values.proofs.length.Statement.{statement}

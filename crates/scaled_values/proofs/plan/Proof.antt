@@ -1,6 +1,6 @@
 -- `scaled_values::plan` meets its contract. Assumes nothing.
 use Rattle.format.specs.Kit.{sym, needs}
-use Rattle.format.proofs.Scaled.{scaled-fields}
+use Rattle.laws.proofs.Scaled.{scaled-fields}
 use Rattle.packings.specs.Packings.{packingOf}
 use Rattle.scaled_values.proofs.plan.Statement.{statement}
 use Rattle.scaled_values.proofs.plan.Tie as tie

@@ -3,8 +3,8 @@ use Rattle.format.specs.Kit.{sym, ap, _∙_, subst, ℕ, _≤_, _/_, length, ne
 use Rattle.format.specs.HeaderNumbers.{unzigzag}
 use Rattle.format.specs.Bits.{packedBytes}
 use Rattle.format.specs.Values.{smallest, spread}
-use Rattle.format.specs.Replies.{fieldsOf}
-use Rattle.format.proofs.Fits.{unzigzag-zigzag}
+use Rattle.answers.specs.Replies.{fieldsOf}
+use Rattle.laws.proofs.Fits.{unzigzag-zigzag}
 use Rattle.packings.specs.Packings.{packingOf}
 use Rattle.signed.specs.Sign.{biased}
 use Rattle.scaled_values.proofs.Facts.{FieldsOf, fields-are}

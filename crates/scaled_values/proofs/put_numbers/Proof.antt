@@ -4,7 +4,7 @@
 use Rattle.format.specs.Kit.{_≡_, ap, _∙_, ℕ, _*_, _-_, _^_, _≤_, _<_, arith, ℤ, pos, length, getD, needs}
 use Rattle.format.specs.Limits.{maxWidth}
 use Rattle.format.specs.Values.{storedWith}
-use Rattle.format.proofs.Values.{length-stored-with}
+use Rattle.laws.proofs.Values.{length-stored-with}
 use Rattle.packings.proofs.Packings.{soundOf, gather-is}
 use Rattle.packing.proofs.Stream.{Streamed, streamed-none, streamed-acc, streamed-room, streamed-more, streamed-end}
 use Rattle.signed.specs.Sign.{biased}

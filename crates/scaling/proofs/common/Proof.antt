@@ -1,6 +1,6 @@
 -- `scaling::common` meets its contract: where what is left is 0 or g, g divides x. Assumes nothing.
 use Rattle.format.specs.Kit.{_∙_, _*_, _/_, _≤_, arith, needs}
-use Rattle.format.proofs.Gcd.{gcd-comm}
+use Rattle.laws.proofs.Gcd.{gcd-comm}
 use Rattle.scaling.proofs.Guess.{guess-le, guess-fits, gcd-of-left}
 use Rattle.scaling.proofs.common.Statement.{statement}
 use Rattle.scaling.proofs.common.Tie as tie

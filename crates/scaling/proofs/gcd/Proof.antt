@@ -2,7 +2,7 @@
 -- Assumes nothing.
 use Rattle.format.specs.Kit.{_≡_, sym, ap, _∙_, pos-of-ne-zero, mod-lt, needs}
 use Rattle.format.specs.Values.{gcd}
-use Rattle.format.proofs.Gcd.{gcd-step, gcd-zero}
+use Rattle.laws.proofs.Gcd.{gcd-step, gcd-zero}
 use Rattle.scaling.proofs.gcd.Statement.{statement}
 use Rattle.scaling.proofs.gcd.Tie as tie
 

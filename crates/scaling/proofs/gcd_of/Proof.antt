@@ -3,8 +3,8 @@
 use Rattle.format.specs.Kit.{_≡_, sym, ap, _∙_, List, map, ℕ, _+_, _-_, _≤_, _<_, add-one, arith, needs, ℤ, pos, length, drop, getD}
 use Rattle.format.specs.Kit.{drop-of-length-le, drop-cons}
 use Rattle.format.specs.Values.{smallest, over, gcd, gcdFrom}
-use Rattle.format.proofs.Gcd.{gcdFrom-one}
-use Rattle.format.proofs.Values.{gcd-from-smallest}
+use Rattle.laws.proofs.Gcd.{gcdFrom-one}
+use Rattle.laws.proofs.Values.{gcd-from-smallest}
 use Rattle.signed.specs.Sign.{biased}
 use Rattle.signed.proofs.Signs.{read-back}
 use Rattle.scaling.specs.Reciprocal.{Reciprocal}

@@ -3,7 +3,7 @@ use Rattle.format.specs.Kit.{ap, _∙_, ℤ, needs}
 use Rattle.format.specs.HeaderNumbers.{unzigzag}
 use Rattle.format.specs.Values.{valueAt}
 use Rattle.format.specs.Codec.{signed64}
-use Rattle.format.proofs.Fits.{fits-size, unzigzag-fits}
+use Rattle.laws.proofs.Fits.{fits-size, unzigzag-fits}
 use Rattle.signed.specs.Sign.{unbiased}
 use Rattle.signed.proofs.Signs.{unbiased-biased}
 use Rattle.scaling.proofs.value_of.Statement.{statement}

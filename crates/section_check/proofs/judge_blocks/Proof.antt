@@ -5,8 +5,8 @@ use Rattle.format.specs.Limits.{endNumber, blockPlaces}
 use Rattle.format.specs.Ids.{dataBytes, blockBytes}
 use Rattle.format.specs.Orders.{fixedAt}
 use Rattle.format.specs.Judge.{judgeFrom}
-use Rattle.format.specs.Replies.{orderOf}
-use Rattle.format.proofs.Sizes.{block-total}
+use Rattle.answers.specs.Replies.{orderOf}
+use Rattle.laws.proofs.Sizes.{block-total}
 use Rattle.section_check.specs.Reasons.{blockReason, Turn, Passed, walkOf}
 use Rattle.section_check.proofs.Turns.{begin, turn-bad-end, turn-end, turn-bad, turn-on, turn-short, sound}
 use Rattle.section_check.proofs.judge_blocks.Statement.{statement}

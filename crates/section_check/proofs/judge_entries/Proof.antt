@@ -3,9 +3,9 @@
 use Rattle.format.specs.Kit.{_≡_, refl, ap, _∙_, ℕ, _+_, _-_, arith, needs}
 use Rattle.format.specs.Orders.{fixedAt}
 use Rattle.format.specs.Judge.{jumpsIn}
-use Rattle.format.specs.Replies.{orderOf}
+use Rattle.answers.specs.Replies.{orderOf}
 use Rattle.format.specs.Ids.{dataBytes, blockBytes}
-use Rattle.format.proofs.Sizes.{block-total}
+use Rattle.laws.proofs.Sizes.{block-total}
 use Rattle.section_check.specs.Reasons.{endedAt}
 use Rattle.section_check.proofs.Trail.{Trail, Here, trail-here, last-right, last-wrong, Past, past}
 use Rattle.section_check.proofs.judge_entries.Statement.{statement}

@@ -3,7 +3,7 @@ use Rattle.format.specs.Kit.{_≡_, sym, ap, _∙_, _+_, arith, needs, length, 
 use Rattle.format.specs.Ids.{notTwo}
 use Rattle.format.specs.Refusals.{done}
 use Rattle.format.specs.Judge.{jumpsIn, judgeEntries}
-use Rattle.format.specs.Replies.{orderOf}
+use Rattle.answers.specs.Replies.{orderOf}
 use Rattle.section_check.specs.Reasons.{endedAt, entriesOf}
 use Rattle.section_check.proofs.Trail.{Past, past}
 use Rattle.section_check.proofs.Left.{two, not-two, no-entries, rest-count, rest-wrong, rest-over, rest-right}

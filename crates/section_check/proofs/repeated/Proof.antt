@@ -1,6 +1,6 @@
 -- `section_check::repeated` meets its contract. Assumes nothing.
 use Rattle.format.specs.Kit.{sym, _∙_, _-_, _≤_, arith, needs, not-true, not-false}
-use Rattle.format.specs.Replies.{orderOf}
+use Rattle.answers.specs.Replies.{orderOf}
 use Rattle.section_check.proofs.Turns.{Kept, kept-begin, kept-on, kept-stop, kept-end}
 use Rattle.section_check.proofs.repeated.Statement.{statement}
 use Rattle.section_check.proofs.repeated.Tie as tie

@@ -5,8 +5,8 @@ use Rattle.format.specs.Limits.{blockPlaces}
 use Rattle.format.specs.Refusals.{Outcome}
 use Rattle.format.specs.Ids.{dataBytes, blockBytes}
 use Rattle.format.specs.Judge.{Ended}
-use Rattle.format.specs.Replies.{orderOf}
-use Rattle.format.proofs.Sizes.{block-total}
+use Rattle.answers.specs.Replies.{orderOf}
+use Rattle.laws.proofs.Sizes.{block-total}
 use Rattle.section_check.specs.Reasons.{blockReason, Turn}
 use Rattle.section_check.proofs.Turns.{turn-bad, turn-on, turn-short, sound}
 use Rattle.section_check.proofs.sparse_blocks.Statement.{statement}

@@ -4,7 +4,7 @@ use Rattle.format.specs.IdsRead.{shorts}
 use Rattle.format.specs.Pairs.{Below, ascFrom}
 use Rattle.format.specs.SetBytes.{setKind}
 use Rattle.format.specs.SetCalls.{setDataBytes}
-use Rattle.format.proofs.Digits.{below-all}
+use Rattle.laws.proofs.Digits.{below-all}
 use Rattle.judge.proofs.LowFirst.{shorts-low}
 use Rattle.set_format.proofs.ByKind.{bytes-bitmap, bytes-list, count-bitmap, count-listed, count-missing, cut-off, length-le, not-ascending, other-ones}
 use Rattle.set_blocks.proofs.data_count.Statement.{statement}

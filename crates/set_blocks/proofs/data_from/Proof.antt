@@ -1,6 +1,6 @@
 -- `set_blocks::data_from` meets its contract. Assumes nothing.
 use Rattle.format.specs.Kit.{needs}
-use Rattle.format.proofs.Digits.{below-all}
+use Rattle.laws.proofs.Digits.{below-all}
 use Rattle.set_blocks.proofs.Steps.{data-damaged, data-fine}
 use Rattle.set_blocks.proofs.data_from.Statement.{statement}
 use Rattle.set_blocks.proofs.data_from.Tie as tie

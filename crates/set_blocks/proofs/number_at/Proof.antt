@@ -1,7 +1,7 @@
 -- `set_blocks::number_at` meets its contract. Assumes nothing.
 use Rattle.format.specs.Kit.{_∙_, ap, needs, sym}
-use Rattle.format.specs.Replies.{refusedAs}
-use Rattle.format.specs.declared.Refusal.{Refusal}
+use Rattle.answers.specs.Replies.{refusedAs}
+use Rattle.answers.specs.declared.Refusal.{Refusal}
 use Rattle.column.proofs.HeaderNumbers.{was-read, was-refused}
 use Rattle.set_blocks.proofs.number_at.Statement.{statement}
 use Rattle.set_blocks.proofs.number_at.Tie as tie

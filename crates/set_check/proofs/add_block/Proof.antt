@@ -3,7 +3,7 @@ use Rattle.format.specs.Kit.{_≡_, ap, _∙_, Bool, ℕ, _/_, arith, needs, re
 use Rattle.format.specs.Ids.{countBelow}
 use Rattle.format.specs.Walk.{listed}
 use Rattle.set_blocks.specs.Found.{placesOf}
-use Rattle.format.proofs.Digits.{below-all}
+use Rattle.laws.proofs.Digits.{below-all}
 use Rattle.set_check.proofs.Walking.{added-high, added-low, added-same}
 use Rattle.set_check.proofs.add_block.Statement.{statement}
 use Rattle.set_check.proofs.add_block.Tie as tie

@@ -4,7 +4,7 @@ use Rattle.format.specs.Ids.{countBelow}
 use Rattle.format.specs.IdsRead.{shorts}
 use Rattle.format.specs.Walk.{listed}
 use Rattle.set_blocks.specs.Found.{placesOf}
-use Rattle.format.proofs.Digits.{below-all}
+use Rattle.laws.proofs.Digits.{below-all}
 use Rattle.set_format.proofs.ByKind.{length-le}
 use Rattle.set_format.proofs.Inside.{below-bitmap, below-list, below-missing, bitmap-fits, list-fits, there-bitmap, there-list, there-missing}
 use Rattle.set_check.proofs.place_in.Statement.{statement}

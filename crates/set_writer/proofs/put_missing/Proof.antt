@@ -3,7 +3,7 @@ use Rattle.format.specs.Kit.{_≡_, refl, sym, ap, _∙_, subst, List, ℕ, suc
 use Rattle.format.specs.Pairs.{Asc}
 use Rattle.format.specs.SetBytes.{missing}
 use Rattle.format.specs.Stores.{Fill}
-use Rattle.format.proofs.Stores.{begun, part-more, room}
+use Rattle.laws.proofs.Stores.{begun, part-more, room}
 use Rattle.set_format.proofs.Data.{length-shorts-bytes}
 use Rattle.block_writer.specs.Part.{placesFrom}
 use Rattle.set_writer.proofs.Spans.{span, span-long, left-of, left-more, left-last, asc-next}

@@ -2,8 +2,8 @@
 use Rattle.format.specs.Kit.{_≡_, refl, ap, _∙_, ℕ, _+_, _-_, _*_, _≤_, arith, needs, sets}
 use Rattle.format.specs.Bytes.{low}
 use Rattle.format.specs.Stores.{Fill}
-use Rattle.format.proofs.Digits.{length-digits}
-use Rattle.format.proofs.Stores.{begun, part-more, filled}
+use Rattle.laws.proofs.Digits.{length-digits}
+use Rattle.laws.proofs.Stores.{begun, part-more, filled}
 use Rattle.set_writer.proofs.Spans.{span, span-first, span-none}
 use Rattle.set_writer.proofs.put_span.Statement.{statement}
 use Rattle.set_writer.proofs.put_span.Tie as tie

@@ -1,7 +1,7 @@
 -- `signalfern_c::signalfern_look_up` meets its contract. Assumes nothing.
 use Rattle.format.specs.Kit.{needs, ap, _∙_, subst}
 use Rattle.format.specs.Walk.{FewWords}
-use Rattle.signalfern_c.specs.Boundary.{answerC}
+use Rattle.boundary.specs.Boundary.{answerC}
 use Rattle.signalfern_c.proofs.signalfern_look_up.Statement.{statement}
 use Rattle.signalfern_c.proofs.signalfern_look_up.Tie as tie
 

@@ -2,9 +2,9 @@
 use Rattle.format.specs.Kit.{needs, ap, _∙_, subst}
 use Rattle.format.specs.Opening.{Opened}
 use Rattle.format.specs.LookUp.{lookUpIn, stepProbes}
-use Rattle.format.specs.Replies.{answerOf, Probed}
+use Rattle.answers.specs.Replies.{answerOf, Probed}
 use Rattle.format.specs.Walk.{FewWords}
-use Rattle.signalfern_c.specs.Boundary.{answerC}
+use Rattle.boundary.specs.Boundary.{answerC}
 use Rattle.signalfern_c.proofs.signalfern_look_up_in.Statement.{statement}
 use Rattle.signalfern_c.proofs.signalfern_look_up_in.Tie as tie
 

@@ -1,6 +1,6 @@
 -- `signalfern_c::signalfern_next` meets its contract. Assumes nothing.
 use Rattle.format.specs.Kit.{needs, ap₂, _∙_}
-use Rattle.signalfern_c.specs.Boundary.{candidateC}
+use Rattle.boundary.specs.Boundary.{candidateC}
 use Rattle.signalfern_c.proofs.signalfern_next.Statement.{statement}
 use Rattle.signalfern_c.proofs.signalfern_next.Tie as tie
 

@@ -2,7 +2,7 @@
 use Rattle.format.specs.Kit.{needs, ap, ap₂, _∙_}
 use Rattle.format.specs.Opening.{Opened}
 use Rattle.format.specs.Next.{nextIn}
-use Rattle.signalfern_c.specs.Boundary.{candidateC, toldC}
+use Rattle.boundary.specs.Boundary.{candidateC, toldC}
 use Rattle.signalfern_c.proofs.signalfern_next_in.Statement.{statement}
 use Rattle.signalfern_c.proofs.signalfern_next_in.Tie as tie
 

@@ -1,6 +1,6 @@
 -- `signalfern_c::signalfern_open` meets its contract. Assumes nothing.
 use Rattle.format.specs.Kit.{needs, ap, _∙_}
-use Rattle.signalfern_c.specs.Boundary.{columnC}
+use Rattle.boundary.specs.Boundary.{columnC}
 use Rattle.signalfern_c.proofs.signalfern_open.Statement.{statement}
 use Rattle.signalfern_c.proofs.signalfern_open.Tie as tie
 

@@ -1,6 +1,6 @@
 -- `signalfern_c::signalfern_read` meets its contract. Assumes nothing.
 use Rattle.format.specs.Kit.{needs, ap, _∙_}
-use Rattle.signalfern_c.specs.Boundary.{replyC}
+use Rattle.boundary.specs.Boundary.{replyC}
 use Rattle.signalfern_c.proofs.signalfern_read.Statement.{statement}
 use Rattle.signalfern_c.proofs.signalfern_read.Tie as tie
 

@@ -1,6 +1,6 @@
 -- `signalfern_c::signalfern_write` meets its contract. Assumes nothing.
 use Rattle.format.specs.Kit.{needs, ap, _∙_}
-use Rattle.signalfern_c.specs.Boundary.{replyC}
+use Rattle.boundary.specs.Boundary.{replyC}
 use Rattle.signalfern_c.proofs.signalfern_write.Statement.{statement}
 use Rattle.signalfern_c.proofs.signalfern_write.Tie as tie
 

@@ -2,7 +2,7 @@
 -- place that is kept. Assumes nothing.
 use Rattle.format.specs.Kit.{_≡_, sym, _∙_, ℕ, _+_, _-_, _*_, _%_, _<_, _≤_, arith, bitAnd, and-mask, length, getD, needs}
 use Rattle.format.specs.Bits.{unpacked}
-use Rattle.format.proofs.Bits.{length-unpacked, fetched-is, within}
+use Rattle.laws.proofs.Bits.{length-unpacked, fetched-is, within}
 use Rattle.packing.proofs.Join.{place-next}
 use Rattle.table_values.proofs.Facts.{high-width, high-fetch}
 use Rattle.table_check.proofs.Codes.{Counting, counting-none, counting-stop, counting-more, counting-end}

@@ -4,7 +4,7 @@ use mir.Syntax.{w64}
 use mir.Val.{toZ, ofZ}
 use mir.Facts.{toZ-ofZ}
 use Rattle.format.specs.Stores.{Fill}
-use Rattle.format.proofs.Stores.{begun, one-more, filled, sets-front}
+use Rattle.laws.proofs.Stores.{begun, one-more, filled, sets-front}
 use Rattle.table_check.specs.ValuesOk.{entriesFrom}
 use Rattle.table_check.proofs.Entries.{length-entries, entries-next, entries-end}
 use Rattle.table_check.proofs.read_table.Statement.{statement}

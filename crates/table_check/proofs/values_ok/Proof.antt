@@ -3,8 +3,8 @@ use Rattle.format.specs.Kit.{_≡_, sym, ap, _∙_, List, ℕ, _-_, _*_, _≤_,
 use Rattle.format.specs.Kit.{needs}
 use Rattle.format.specs.Bits.{packedBytes}
 use Rattle.format.specs.Table.{ascends}
-use Rattle.format.specs.Replies.{fieldsOf}
-use Rattle.format.proofs.Table.{TableRules}
+use Rattle.answers.specs.Replies.{fieldsOf}
+use Rattle.laws.proofs.Table.{TableRules}
 use Rattle.plans.specs.Saves.{saves}
 use Rattle.table_values.proofs.Facts.{rules-are, narrow, rest-is}
 use Rattle.table_check.specs.ValuesOk.{entriesFrom, codesOk, valuesOk}

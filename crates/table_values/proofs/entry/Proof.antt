@@ -3,7 +3,7 @@ use Rattle.format.specs.Kit.{ap, _∙_, _^_, _<_, ℕ, needs}
 use mir.Syntax.{w64}
 use mir.Facts.{toZ-ofZ}
 use Rattle.format.specs.Bytes.{untwos}
-use Rattle.format.proofs.Fits.{untwos-fits, fits-size}
+use Rattle.laws.proofs.Fits.{untwos-fits, fits-size}
 use Rattle.signed.specs.Sign.{unbiased}
 use Rattle.signed.proofs.Signs.{unbiased-biased}
 use Rattle.table_values.proofs.entry.Statement.{statement}

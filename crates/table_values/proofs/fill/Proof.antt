@@ -10,11 +10,11 @@ use Rattle.format.specs.Bits.{fetched, packedBytes}
 use Rattle.format.specs.Table.{tableValue}
 use Rattle.format.specs.Check.{allValues}
 use Rattle.format.specs.Stores.{Fill}
-use Rattle.format.specs.Replies.{fieldsOf}
-use Rattle.format.proofs.Bits.{within}
-use Rattle.format.proofs.Stores.{begun, one-more, filled, sets-front}
-use Rattle.format.proofs.RoundTrip.{all-length, all-at}
-use Rattle.format.proofs.Table.{TableRules}
+use Rattle.answers.specs.Replies.{fieldsOf}
+use Rattle.laws.proofs.Bits.{within}
+use Rattle.laws.proofs.Stores.{begun, one-more, filled, sets-front}
+use Rattle.laws.proofs.RoundTrip.{all-length, all-at}
+use Rattle.laws.proofs.Table.{TableRules}
 use Rattle.packing.proofs.Join.{place-next}
 use Rattle.table_values.proofs.Facts.{rules-are, values-are, narrow, table-within, rest-is, high-width, high-fetch, there-code}
 use Rattle.table_values.proofs.fill.Statement.{statement}

@@ -5,8 +5,8 @@ use mir.Val.{toZ, ofZ}
 use mir.Facts.{toZ-ofZ}
 use Rattle.format.specs.Bytes.{lowAt, untwos}
 use Rattle.format.specs.Pairs.{Fits}
-use Rattle.format.proofs.Fits.{size-fits}
-use Rattle.format.proofs.Scaled.{signed-some}
+use Rattle.laws.proofs.Fits.{size-fits}
+use Rattle.laws.proofs.Scaled.{signed-some}
 use Rattle.table_values.proofs.value_of.Statement.{statement}
 use Rattle.table_values.proofs.value_of.Tie as tie
 

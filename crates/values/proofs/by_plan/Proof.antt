@@ -1,7 +1,7 @@
 -- `values::by_plan` meets its contract. Assumes nothing.
 use Rattle.format.specs.Kit.{_≡_, refl, sym, ℕ, arith, needs}
 use Rattle.format.specs.Editions.{plain, lucene, runs, table}
-use Rattle.format.proofs.Cases.{false-true}
+use Rattle.laws.proofs.Cases.{false-true}
 use Rattle.values.proofs.by_plan.Statement.{statement}
 use Rattle.values.proofs.by_plan.Tie as tie
 

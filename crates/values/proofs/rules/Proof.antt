@@ -2,7 +2,7 @@
 use Rattle.format.specs.Kit.{_≡_, sym, ap, _∙_, Bool, arith, needs}
 use Rattle.format.specs.Codec.{Codec}
 use Rattle.format.specs.Editions.{codec}
-use Rattle.format.specs.Replies.{fieldsOf}
+use Rattle.answers.specs.Replies.{fieldsOf}
 use Rattle.values.specs.declared.Layout as La
 use Rattle.values.specs.Edition.{editionOf, layoutOf}
 use Rattle.values.proofs.Layouts.{codecBy, codec-is}

@@ -4,7 +4,7 @@ use Rattle.format.specs.Refusals.{Outcome}
 use Rattle.format.specs.Editions.{Edition}
 use Rattle.format.specs.Plan.{planOk, planEdition}
 use Rattle.format.specs.Writer.{writeAs, writeReply, writeOut}
-use Rattle.format.proofs.Plans.{planned-write}
+use Rattle.laws.proofs.Plans.{planned-write}
 use Rattle.values.specs.Edition.{editionOf}
 use Rattle.writer.proofs.Written.{passed-few, plan-refused, plan-for, edition-is, refused-both}
 use Rattle.writer.proofs.write_checked.Statement.{statement}

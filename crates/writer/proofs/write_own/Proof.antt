@@ -3,7 +3,7 @@ use Rattle.format.specs.Kit.{_≡_, sym, ap, _∙_, List, ℕ, ℤ, length, tak
 use Rattle.format.specs.Refusals.{Outcome}
 use Rattle.format.specs.Plan.{planned}
 use Rattle.format.specs.Writer.{writePlanned, writeReply, writeOut}
-use Rattle.format.proofs.Plans.{own-planned}
+use Rattle.laws.proofs.Plans.{own-planned}
 use Rattle.writer.proofs.Written.{passed-few}
 use Rattle.writer.proofs.write_own.Statement.{statement}
 use Rattle.writer.proofs.write_own.Tie as tie

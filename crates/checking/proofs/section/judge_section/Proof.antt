@@ -3,8 +3,8 @@ use Rattle.format.specs.Kit.{_≡_, sym, ap, ap₂, _∙_, subst, ℕ, arith, n
 use Rattle.format.specs.Limits.{Power}
 use Rattle.format.specs.Refusals.{Outcome, refused}
 use Rattle.format.specs.Judge.{judgeSection}
-use Rattle.format.specs.Replies.{orderOf}
-use Rattle.format.proofs.Rules.{power-fact}
+use Rattle.answers.specs.Replies.{orderOf}
+use Rattle.laws.proofs.Rules.{power-fact}
 use Rattle.judge.proofs.Reasons.{numbered}
 use Rattle.section_check.specs.Reasons.{verdictOf}
 use Rattle.checking.proofs.Bare.{power-outside, count-outside, limits-kept}

@@ -1,6 +1,6 @@
 -- `page::marks::find` meets its contract. Assumes nothing.
 use Rattle.format.specs.Kit.{needs, _/_, refl, sym, _<_, arith, eqb-true}
-use Rattle.format.proofs.Rules.{head-facts}
+use Rattle.laws.proofs.Rules.{head-facts}
 use Rattle.column.specs.Opened.{columnOf}
 use Rattle.lookup.proofs.Whole.{Parted, id-part}
 use Rattle.page.specs.Marks.{InBlock}

@@ -7,14 +7,14 @@ use Rattle.reference.proofs.table.put_section.Statement.{statement}
 use Rattle.reference.proofs.table.put_section.Tie as tie
 
 abbrev Inv-loop : tie.InvT-loop
-Inv-loop out₀ base table values codes w j₀ j-end out j = length out ≡ length out₀
+Inv-loop out₀ base values table at₀ k₀ k-end out at k = length out ≡ length out₀
 
 abbrev μ-loop : tie.MeasureT-loop
-μ-loop out₀ base table values codes w j₀ j-end out j = j-end - j
+μ-loop out₀ base values table at₀ k₀ k-end out at k = k-end - k
 
 pub put-section-spec : {M : Type 1} → statement M
 put-section-spec =
     tie.close (tie.spec Inv-loop μ-loop
-    (λ c κs. search needs) (λ c κs. search needs) (λ c κs. search needs) (λ c κs. search needs) (λ c. search needs) (λ c κs. search needs)
-    (λ c κs. search needs) (λ c κs. search needs) (λ c κs. search needs) (λ c. search needs) (λ c. search needs) (λ c. search needs)
-    (λ c. search needs) (λ c. search needs))
+    (λ c. search needs) (λ c κs. search needs) (λ c κs. search needs) (λ c κs. search needs) (λ c. search needs) (λ c. search needs)
+    (λ c. search needs) (λ c κs. search needs) (λ c κs. search needs) (λ c κs. search needs) (λ c κs. search needs) (λ c. search needs)
+    (λ c. search needs))

@@ -1,17 +1,16 @@
 -- `run_values::length` meets its contract. The loop's invariant: the sum is the directory and the bytes of the runs before run r.
 -- Assumes nothing.
-use Rattle.format.specs.Kit.{_≡_, sym, ap, ap₂, _∙_, ℕ, List, ℤ, [], _+_, _-_, _*_, _≤_, _<_, add-zero, add-one, arith, length, getD, take, drop}
-use Rattle.format.specs.Kit.{length-take-le, length-drop, needs}
+use Rattle.format.specs.Kit.{_≡_, sym, ap, ap₂, _∙_, ℕ, List, ℤ, [], _+_, _-_, _≤_, _<_, add-zero, add-one, arith, length, getD, needs}
 use Rattle.format.specs.Bytes.{bytesOf}
 use Rattle.format.specs.Bits.{packedBytes}
 use Rattle.format.specs.Values.{divisor, widthWith}
 use Rattle.format.specs.Codec.{Fields}
-use Rattle.format.specs.ValueRuns.{runLength, runCount, directoryLength, runsOf, runBytes, Summary, summaryOf, runSection}
-use Rattle.format.proofs.Bounds.{divisor-is}
-use Rattle.format.proofs.ValueRuns.{length-run, runStart, start-le}
-use Rattle.format.proofs.InRuns.{runs-count, length-section, section-le}
-use Rattle.format.proofs.Editions.{runs-fields, runs-section}
-use Rattle.run_values.proofs.Laid.{part-is, start-more, start-all}
+use Rattle.format.specs.ValueRuns.{runCount, directoryLength, runsOf, runBytes, Summary, summaryOf, runSection}
+use Rattle.laws.proofs.Bounds.{divisor-is}
+use Rattle.laws.proofs.ValueRuns.{length-run, runStart, start-le}
+use Rattle.laws.proofs.InRuns.{runs-count, length-section, section-le}
+use Rattle.laws.proofs.Editions.{runs-fields, runs-section}
+use Rattle.run_values.proofs.Laid.{part, IsRun, part-is, start-more, start-all}
 use Rattle.run_values.proofs.writing.length.Statement.{statement}
 use Rattle.run_values.proofs.writing.length.Tie as tie
 
@@ -35,29 +34,9 @@ loop-holds c = (omega arith, c .directory-length .ensures ∙ sym (add-zero _))
 there : (c : tie.In-loop Inv-loop μ-loop) → c .before .loop .r < runCount (length (start (c .before) .args .values .now))
 there c = omega (arith, c .loop-test .taken, c .before .before .before .run-count .ensures)
 
-ends : (c : tie.After-count-in Inv-loop μ-loop) → let l = c .before .before in
-    runLength * l .loop .r + c .count-in .result ≤ length (start l .args .values .now)
-ends c = omega (arith, there (c .before), c .count-in .ensures)
-
 -- its values
-abbrev values-in : (c : tie.After-count-in Inv-loop μ-loop) → List ℤ
-values-in c =
-    let l = c .before .before in
-    let i : ℕ = runLength * l .loop .r in
-    take (i + c .count-in .result - i) (drop i (start l .args .values .now))
-
-run-is : (c : tie.After-count-in Inv-loop μ-loop) → let l = c .before .before in
-    values-in c ≡ getD (runsOf (start l .args .values .now)) (l .loop .r) []
-run-is c =
-    let l = c .before .before in
-    let i : ℕ = runLength * l .loop .r in
-    part-is (start l .args .values .now) (l .loop .r) i (i + c .count-in .result) (there (c .before)) (λ j. i) (ap (λ (k : ℕ). i + k) (c .count-in .ensures))
-
-long : (c : tie.After-count-in Inv-loop μ-loop) → let i = runLength * c .before .before .loop .r in length (values-in c) ≡ i + c .count-in .result - i
-long c =
-    let l = c .before .before in
-    let i : ℕ = runLength * l .loop .r in
-    length-take-le (i + c .count-in .result - i) (drop i (start l .args .values .now)) (omega (arith, ends c, length-drop i (start l .args .values .now)))
+here : (c : tie.After-count-in Inv-loop μ-loop) → let l = c .before .before in IsRun (start l .args .values .now) (l .loop .r) (c .count-in .result)
+here c = let l = c .before .before in part-is (start l .args .values .now) (l .loop .r) (c .count-in .result) (there (c .before)) (c .count-in .ensures)
 
 -- its bytes
 bytes-are : (c : tie.After-packed-bytes Inv-loop μ-loop) → let l = c .before .before .before .before .before in let vs = start l .args .values .now in
@@ -70,10 +49,10 @@ bytes-are c =
     let s = start l in
     let vs = s .args .values .now in
     c .packed-bytes .ensures .0
-    ∙ ap₂ (λ (k w : ℕ). packedBytes k w) (sym (long q)) (ap (λ (x : Summary). x .width) (m .summary-of .ensures .0)
-    ∙ ap (λ (g : ℕ). widthWith g (values-in q)) (own s))
-    ∙ sym (length-run (divisor vs) (values-in q))
-    ∙ ap (λ (r : List ℤ). length (runBytes (divisor vs) r)) (run-is q)
+    ∙ ap₂ (λ (k w : ℕ). packedBytes k w) (sym (here q .long)) (ap (λ (x : Summary). x .width) (m .summary-of .ensures .0)
+    ∙ ap (λ (g : ℕ). widthWith g (part vs (l .loop .r) (q .count-in .result))) (own s))
+    ∙ sym (length-run (divisor vs) (part vs (l .loop .r) (q .count-in .result)))
+    ∙ ap (λ (r : List ℤ). length (runBytes (divisor vs) r)) (here q .run)
 
 next-sum : (c : tie.After-packed-bytes Inv-loop μ-loop) → let l = c .before .before .before .before .before in let vs = start l .args .values .now in
     l .loop .sum + c .packed-bytes .result ≡ directoryLength (length vs) + runStart (divisor vs) (runsOf vs) (l .loop .r + 1)
@@ -112,8 +91,9 @@ length-spec =
     (λ c κs. search needs) (λ c κs. search needs)
     loop-holds
     (λ c. omega (arith, there c)) (λ c κs. omega (arith, there c))
-    (λ c. omega (arith, ends c))
-    (λ c. let h = ends c in search needs) (λ c. let h = ends c in search needs) (λ c. let h = ends c in search needs) (λ c. let h = ends c in search needs)
+    (λ c. omega (arith, here c .ends))
+    (λ c. let h = here c .ends in search needs) (λ c. let h = here c .ends in search needs)
+    (λ c. let h = here c .ends in search needs) (λ c. let h = here c .ends in search needs)
     (λ c κs. let s = start (c .before .before .before) in omega (arith, own s, divisor-is (s .args .values .now) (s .pre .1) .0))
     (λ c. search needs)
     (λ c κs. (omega (arith, c .before .before .count-in .ensures), c .summary-of .ensures .1))

@@ -1,6 +1,6 @@
 -- `run_values::plan` meets its contract. Assumes nothing.
 use Rattle.format.specs.Kit.{sym, needs}
-use Rattle.format.proofs.Editions.{runs-fields}
+use Rattle.laws.proofs.Editions.{runs-fields}
 use Rattle.run_values.proofs.writing.plan.Statement.{statement}
 use Rattle.run_values.proofs.writing.plan.Tie as tie
 

@@ -1,15 +1,14 @@
 -- `run_values::put` meets its contract. The loop's invariant: what is left of the directory and of the runs, put where it goes, makes the whole
 -- section. Assumes nothing.
-use Rattle.format.specs.Kit.{_≡_, sym, ap, ap₂, _∙_, subst, ℕ, List, ℤ, [], _++_, _+_, _-_, _*_, _≤_, _<_, arith, length, getD, take, drop, length-take-le}
-use Rattle.format.specs.Kit.{length-drop, sets, needs}
+use Rattle.format.specs.Kit.{_≡_, sym, ap, ap₂, _∙_, subst, ℕ, List, ℤ, [], _++_, _+_, _-_, _*_, _≤_, _<_, arith, length, getD, drop, sets, needs}
 use Rattle.format.specs.Values.{divisor}
 use Rattle.format.specs.Pairs.{Each, Fits}
 use Rattle.format.specs.Codec.{Fields}
-use Rattle.format.specs.ValueRuns.{runLength, runCount, runsOf, runBytes, summaryOf, summaryBytes, runSection}
-use Rattle.format.proofs.Bounds.{divisor-is}
-use Rattle.format.proofs.InRuns.{runs-count, run-each}
-use Rattle.format.proofs.Editions.{runs-fields, runs-section}
-use Rattle.run_values.proofs.Laid.{part-is, Laid, laid-none, laid-more, laid-room, laid-all}
+use Rattle.format.specs.ValueRuns.{runCount, runsOf, runBytes, summaryOf, summaryBytes, runSection}
+use Rattle.laws.proofs.Bounds.{divisor-is}
+use Rattle.laws.proofs.InRuns.{runs-count, run-each}
+use Rattle.laws.proofs.Editions.{runs-fields, runs-section}
+use Rattle.run_values.proofs.Laid.{IsRun, part-is, Laid, laid-none, laid-more, laid-room, laid-all}
 use Rattle.run_values.proofs.writing.put.Statement.{statement}
 use Rattle.run_values.proofs.writing.put.Tie as tie
 
@@ -32,29 +31,9 @@ fits s = subst (λ (l : List ℕ). length l ≤ length (s .args .out .now)) (run
 there : (c : tie.In-loop Inv-loop μ-loop) → c .before .loop .r < runCount (length (start (c .before) .args .values .now))
 there c = omega (arith, c .loop-test .taken, c .before .before .before .run-count .ensures)
 
-ends : (c : tie.After-count-in Inv-loop μ-loop) → let l = c .before .before in
-    runLength * l .loop .r + c .count-in .result ≤ length (start l .args .values .now)
-ends c = omega (arith, there (c .before), c .count-in .ensures)
-
 -- its values
-abbrev values-in : (c : tie.After-count-in Inv-loop μ-loop) → List ℤ
-values-in c =
-    let l = c .before .before in
-    let i : ℕ = runLength * l .loop .r in
-    take (i + c .count-in .result - i) (drop i (start l .args .values .now))
-
-run-is : (c : tie.After-count-in Inv-loop μ-loop) → let l = c .before .before in
-    values-in c ≡ getD (runsOf (start l .args .values .now)) (l .loop .r) []
-run-is c =
-    let l = c .before .before in
-    let i : ℕ = runLength * l .loop .r in
-    part-is (start l .args .values .now) (l .loop .r) i (i + c .count-in .result) (there (c .before)) (λ j. i) (ap (λ (k : ℕ). i + k) (c .count-in .ensures))
-
-long : (c : tie.After-count-in Inv-loop μ-loop) → let i = runLength * c .before .before .loop .r in length (values-in c) ≡ i + c .count-in .result - i
-long c =
-    let l = c .before .before in
-    let i : ℕ = runLength * l .loop .r in
-    length-take-le (i + c .count-in .result - i) (drop i (start l .args .values .now)) (omega (arith, ends c, length-drop i (start l .args .values .now)))
+here : (c : tie.After-count-in Inv-loop μ-loop) → let l = c .before .before in IsRun (start l .args .values .now) (l .loop .r) (c .count-in .result)
+here c = let l = c .before .before in part-is (start l .args .values .now) (l .loop .r) (c .count-in .result) (there (c .before)) (c .count-in .ensures)
 
 -- there is room for it
 room : (c : tie.After-count-in Inv-loop μ-loop) → let l = c .before .before in let vs = start l .args .values .now in
@@ -73,14 +52,12 @@ put-run-requires c κs =
     let s = start l in
     let vs = s .args .values .now in
     let d = l .before .directory-length .ensures in
-    let w = room q in
-    let same : length (runBytes (s .args .fields .divisor) (values-in q)) ≡ length (runBytes (divisor vs) (getD (runsOf vs) (l .loop .r) [])) =
-    ap₂ (λ (g : ℕ) (r : List ℤ). length (runBytes g r)) (own s) (run-is q) in (
+    let w = room q in (
       omega (arith, w .0, d, runs-count vs),
       omega (arith, own s, divisor-is vs (s .pre .1) .0),
-      omega (arith, long q, q .count-in .ensures),
-      subst (Each Fits) (sym (run-is q)) (run-each vs Fits (s .pre .1) (l .loop .r) (there (q .before))),
-      omega (arith, w .1, d, runs-count vs, same),
+      omega (arith, here q .long, q .count-in .ensures),
+      subst (Each Fits) (sym (here q .run)) (run-each vs Fits (s .pre .1) (l .loop .r) (there (q .before))),
+      omega (arith, w .1, d, runs-count vs, ap₂ (λ (g : ℕ) (r : List ℤ). length (runBytes g r)) (own s) (here q .run)),
     )
 
 -- one run more
@@ -99,12 +76,12 @@ laid c =
     (c .put-run .ensures .1
     ∙ ap₂ (λ (d : ℕ) (r : List ℤ).
     sets (sets (l .loop .out) (25 * l .loop .r) (summaryBytes (summaryOf d (l .loop .start) r))) (l .before .directory-length .result + l .loop .start)
-    (runBytes d r)) g (run-is q)
+    (runBytes d r)) g (here q .run)
     ∙ ap (λ (f : ℕ).
     sets (sets (l .loop .out) (25 * l .loop .r) (summaryBytes (summaryOf (divisor vs) (l .loop .start) (getD (runsOf vs) (l .loop .r) []))))
     (f + l .loop .start)
     (runBytes (divisor vs) (getD (runsOf vs) (l .loop .r) []))) from)
-    (c .put-run .ensures .0 ∙ ap₂ (λ (d : ℕ) (r : List ℤ). length (runBytes d r)) g (run-is q)) (λ j. l .loop .start + c .put-run .result)
+    (c .put-run .ensures .0 ∙ ap₂ (λ (d : ℕ) (r : List ℤ). length (runBytes d r)) g (here q .run)) (λ j. l .loop .start + c .put-run .result)
 
 add-start : tie.Need-add-start Inv-loop μ-loop
 add-start c =
@@ -113,7 +90,7 @@ add-start c =
     let l = q .before .before in
     let s = start l in
     let vs = s .args .values .now in
-    omega (arith, room q .1, p .put-run .ensures .0, ap₂ (λ (d : ℕ) (r : List ℤ). length (runBytes d r)) (own s) (run-is q), l .loop .inv .1 .kept)
+    omega (arith, room q .1, p .put-run .ensures .0, ap₂ (λ (d : ℕ) (r : List ℤ). length (runBytes d r)) (own s) (here q .run), l .loop .inv .1 .kept)
 
 returns : tie.Need-returns Inv-loop μ-loop
 returns c =
@@ -130,9 +107,9 @@ put-spec =
     (λ c κs. search needs) (λ c κs. search needs)
     (λ c. (omega arith, laid-none _ _ _))
     (λ c. omega (arith, there c)) (λ c κs. omega (arith, there c))
-    (λ c. omega (arith, ends c))
-    (λ c. let h = ends (c .before) in search needs) (λ c. let h = ends (c .before) in search needs) (λ c. let h = ends (c .before) in search needs)
-    (λ c. let h = ends (c .before) in search needs)
+    (λ c. omega (arith, here c .ends))
+    (λ c. let h = here (c .before) .ends in search needs) (λ c. let h = here (c .before) .ends in search needs)
+    (λ c. let h = here (c .before) .ends in search needs) (λ c. let h = here (c .before) .ends in search needs)
     put-run-requires
     add-start
     (λ c. omega (arith, c .before .before .before .before .before .before .loop-test .taken))

@@ -5,7 +5,7 @@ use Rattle.format.specs.Bits.{packedBytes, packed}
 use Rattle.format.specs.Values.{smallest, widthWith, storedWith}
 use Rattle.format.specs.ValueRuns.{Summary, summaryOf, summaryBytes, runBytes}
 use Rattle.format.specs.Editions.{highFirst}
-use Rattle.format.proofs.ValueRuns.{length-run}
+use Rattle.laws.proofs.ValueRuns.{length-run}
 use Rattle.signed.specs.Sign.{biased}
 use Rattle.signed.proofs.Signs.{biased-unbiased}
 use Rattle.run_values.proofs.Laid.{run-put}

@@ -3,8 +3,8 @@ use Rattle.format.specs.Kit.{_≡_, ap, _∙_, ℕ, _/_, arith, needs}
 use Rattle.format.specs.Values.{bitLength, widthWith}
 use Rattle.format.specs.ValueRuns.{summaryOf}
 use Rattle.format.specs.Editions.{highFirst}
-use Rattle.format.proofs.Fits.{fits-size, smallest-fits, greatest-fits}
-use Rattle.format.proofs.ValueRuns.{run-narrow}
+use Rattle.laws.proofs.Fits.{fits-size, smallest-fits, greatest-fits}
+use Rattle.laws.proofs.ValueRuns.{run-narrow}
 use Rattle.signed.specs.Sign.{unbiased}
 use Rattle.signed.proofs.Signs.{unbiased-biased}
 use Rattle.scaling.proofs.Spread.{spread-is}

@@ -3,7 +3,7 @@ use Rattle.format.specs.Kit.{_≡_, refl, sym, _∙_, _&&_, _+_, _-_, _*_, _≤
 use Rattle.section_check.proofs.BlockTests.{asc-begin, asc-turn, asc-end}
 use Rattle.format.specs.Orders.{fixedAt, numbersIn}
 use Rattle.format.specs.Pairs.{ascFrom}
-use Rattle.format.specs.Replies.{orderOf}
+use Rattle.answers.specs.Replies.{orderOf}
 use Rattle.section_check.proofs.block.ascending.Statement.{statement}
 use Rattle.section_check.proofs.block.ascending.Tie as tie
 

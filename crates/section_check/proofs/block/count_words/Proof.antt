@@ -3,9 +3,9 @@
 use Rattle.format.specs.Kit.{_≡_, sym, ap, ap₂, _∙_, _&&_, ℕ, _+_, _-_, _*_, _/_, _^_, _≤_, zero-mul, add-zero, arith, needs}
 use Rattle.format.specs.Ids.{rankBytes}
 use Rattle.format.specs.LookUp.{onesFrom}
-use Rattle.format.proofs.Sizes.{ranks-none, stride-fits, stride-next}
+use Rattle.laws.proofs.Sizes.{ranks-none, stride-fits, stride-next}
 use Rattle.format.specs.Judge.{ranksFrom}
-use Rattle.format.proofs.Ones.{ones-none, ones-grow, ones-moved}
+use Rattle.laws.proofs.Ones.{ones-none, ones-grow, ones-moved}
 use Rattle.section_check.proofs.BlockTests.{ranks-free, ranks-begin, ranks-turn, ranks-last, strides-all}
 use Rattle.section_check.proofs.block.count_words.Statement.{statement}
 use Rattle.section_check.proofs.block.count_words.Tie as tie

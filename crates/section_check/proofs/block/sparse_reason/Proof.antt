@@ -1,7 +1,7 @@
 -- `section_check::block::sparse_reason` meets its contract. Assumes nothing.
 use Rattle.format.specs.Kit.{_≡_, sym, _∙_, arith, needs, not-true, not-false}
-use Rattle.format.specs.Replies.{orderOf}
-use Rattle.format.proofs.Sizes.{block-total, data-sparse}
+use Rattle.answers.specs.Replies.{orderOf}
+use Rattle.laws.proofs.Sizes.{block-total, data-sparse}
 use Rattle.section_check.specs.Reasons.{headThen}
 use Rattle.section_check.proofs.BlockTests.{places-sparse, words-sparse}
 use Rattle.section_check.proofs.Turns.{head-sound, reason-head, reason-places, reason-words}

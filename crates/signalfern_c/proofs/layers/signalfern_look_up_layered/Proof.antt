@@ -1,6 +1,6 @@
 -- `signalfern_c::layers::signalfern_look_up_layered` meets its contract. Assumes nothing.
 use Rattle.format.specs.Kit.{needs, ap, _∙_}
-use Rattle.signalfern_c.specs.Layers.{layeredC}
+use Rattle.boundary.specs.Layers.{layeredC}
 use Rattle.signalfern_c.proofs.layers.signalfern_look_up_layered.Statement.{statement}
 use Rattle.signalfern_c.proofs.layers.signalfern_look_up_layered.Tie as tie
 

@@ -2,7 +2,7 @@
 use Rattle.format.specs.Kit.{needs, ap, ap₂, _∙_}
 use Rattle.format.specs.Opening.{Opened}
 use Rattle.format.specs.Layered.{lookUpLayeredIn}
-use Rattle.signalfern_c.specs.Layers.{layeredC}
+use Rattle.boundary.specs.Layers.{layeredC}
 use Rattle.signalfern_c.proofs.layers.signalfern_look_up_layered_in.Statement.{statement}
 use Rattle.signalfern_c.proofs.layers.signalfern_look_up_layered_in.Tie as tie
 

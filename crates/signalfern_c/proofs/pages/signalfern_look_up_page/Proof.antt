@@ -1,6 +1,6 @@
 -- `signalfern_c::pages::signalfern_look_up_page` meets its contract. Assumes nothing.
 use Rattle.format.specs.Kit.{needs, ap, _∙_}
-use Rattle.signalfern_c.specs.Boundary.{pageC}
+use Rattle.boundary.specs.Boundary.{pageC}
 use Rattle.signalfern_c.proofs.pages.signalfern_look_up_page.Statement.{statement}
 use Rattle.signalfern_c.proofs.pages.signalfern_look_up_page.Tie as tie
 

@@ -1,6 +1,6 @@
 -- `signalfern_c::planning::signalfern_write_planned` meets its contract. Assumes nothing.
 use Rattle.format.specs.Kit.{needs, ap, _∙_}
-use Rattle.signalfern_c.specs.Boundary.{replyC}
+use Rattle.boundary.specs.Boundary.{replyC}
 use Rattle.signalfern_c.proofs.planning.signalfern_write_planned.Statement.{statement}
 use Rattle.signalfern_c.proofs.planning.signalfern_write_planned.Tie as tie
 

@@ -2,7 +2,7 @@
 use Rattle.format.specs.Kit.{needs, ap, ap₂, _∙_, ℤ}
 use Rattle.format.specs.FirstBetween.{firstBetween}
 use Rattle.signed.proofs.Signs.{read-back}
-use Rattle.signalfern_c.specs.Boundary.{betweenC}
+use Rattle.boundary.specs.Boundary.{betweenC}
 use Rattle.signalfern_c.proofs.ranges.signalfern_first_between.Statement.{statement}
 use Rattle.signalfern_c.proofs.ranges.signalfern_first_between.Tie as tie
 

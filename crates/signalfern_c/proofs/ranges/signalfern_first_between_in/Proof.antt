@@ -4,7 +4,7 @@ use Rattle.format.specs.Opening.{Opened}
 use Rattle.format.specs.FirstBetween.{firstBetweenIn}
 use Rattle.signed.proofs.Signs.{read-back}
 use Rattle.column.specs.Opened.{columnOf}
-use Rattle.signalfern_c.specs.Boundary.{betweenC}
+use Rattle.boundary.specs.Boundary.{betweenC}
 use Rattle.signalfern_c.proofs.ranges.signalfern_first_between_in.Statement.{statement}
 use Rattle.signalfern_c.proofs.ranges.signalfern_first_between_in.Tie as tie
 

@@ -2,7 +2,7 @@
 use Rattle.format.specs.Kit.{needs, ap, _∙_}
 use Rattle.format.specs.Orders.{Order}
 use Rattle.format.specs.Judge.{judgeSection}
-use Rattle.signalfern_c.specs.Sections.{judgementC}
+use Rattle.boundary.specs.Sections.{judgementC}
 use Rattle.signalfern_c.proofs.sections.signalfern_judge_section.Statement.{statement}
 use Rattle.signalfern_c.proofs.sections.signalfern_judge_section.Tie as tie
 

@@ -1,6 +1,6 @@
 -- `signalfern_c::sets::signalfern_set_find` meets its contract. Assumes nothing.
 use Rattle.format.specs.Kit.{needs, ap, _∙_}
-use Rattle.signalfern_c.specs.Sets.{memberC}
+use Rattle.boundary.specs.Sets.{memberC}
 use Rattle.signalfern_c.proofs.sets.signalfern_set_find.Statement.{statement}
 use Rattle.signalfern_c.proofs.sets.signalfern_set_find.Tie as tie
 

@@ -1,6 +1,6 @@
 -- `signalfern_c::sets::signalfern_set_write` meets its contract. Assumes nothing.
 use Rattle.format.specs.Kit.{needs, ap, _∙_}
-use Rattle.signalfern_c.specs.Boundary.{replyC}
+use Rattle.boundary.specs.Boundary.{replyC}
 use Rattle.signalfern_c.proofs.sets.signalfern_set_write.Statement.{statement}
 use Rattle.signalfern_c.proofs.sets.signalfern_set_write.Tie as tie
 

@@ -1,6 +1,6 @@
 -- `table_values::writing::put` meets its contract: the codes go into the part that follows the table. Assumes nothing.
 use Rattle.format.specs.Kit.{ap, _∙_, _-_, _*_, _≤_, arith, length, length-drop, needs}
-use Rattle.format.proofs.Table.{length-section}
+use Rattle.laws.proofs.Table.{length-section}
 use Rattle.table_values.proofs.Written.{section-made}
 use Rattle.table_values.proofs.Facts.{rest-is}
 use Rattle.table_values.proofs.writing.put.Statement.{statement}

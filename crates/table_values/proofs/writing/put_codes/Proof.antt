@@ -2,9 +2,9 @@
 use Rattle.format.specs.Kit.{_≡_, sym, ap, _∙_, map, ℕ, _*_, _-_, _^_, _≤_, _<_, arith, ℤ, pos, length, getD, mag, drop, _++_, needs}
 use Rattle.format.specs.Bits.{packed, packedBytes, bitBytes}
 use Rattle.format.specs.Table.{codeIn, codeWidth}
-use Rattle.format.proofs.Orders.{packedBy}
-use Rattle.format.proofs.Bits.{highOrder, high-orderly}
-use Rattle.format.proofs.Table.{length-codes, codes-at, code-small}
+use Rattle.laws.proofs.Orders.{packedBy}
+use Rattle.laws.proofs.Bits.{highOrder, high-orderly}
+use Rattle.laws.proofs.Table.{length-codes, codes-at, code-small}
 use Rattle.packing.proofs.Stream.{Streamed, streamed-none, streamed-acc, streamed-room, streamed-more, streamed-end}
 use Rattle.signed.specs.Sign.{biased, unbiased}
 use Rattle.signed.proofs.Signs.{read-back, unbiased-biased}

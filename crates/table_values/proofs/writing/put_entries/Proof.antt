@@ -3,8 +3,8 @@ use Rattle.format.specs.Kit.{_≡_, refl, ap, _∙_, _+_, _-_, _*_, _^_, _<_, a
 use Rattle.format.specs.Bytes.{bytesOf, low, twos}
 use Rattle.format.specs.Stores.{Fill}
 use Rattle.format.specs.Table.{tableEntry}
-use Rattle.format.proofs.Stores.{begun, part-more, filled}
-use Rattle.format.proofs.Digits.{length-digits}
+use Rattle.laws.proofs.Stores.{begun, part-more, filled}
+use Rattle.laws.proofs.Digits.{length-digits}
 use Rattle.signed.specs.Sign.{biased, unbiased}
 use Rattle.signed.proofs.Signs.{read-back, unbiased-biased}
 use Rattle.table_values.proofs.Written.{entries-more, entries-end}
