@@ -52,15 +52,15 @@ pub fn saves(table: &[i64], n: u64) -> bool
 // ---- the small check
 
 // Sets a mark at each value's place. Whether each value is there.
-fn mark(marks: &mut [u8], table: &[i64], values: &[i64]) -> bool
-    requires { ⌜ (ascends (now table) ≡ true) × (length (now table) ≤ length (now marks)) ⌝ }
+fn mark_by(marks: &mut [u8], guesses: &mut [u8], table: &[i64], values: &[i64]) -> bool
+    requires { ⌜ (ascends (now table) ≡ true) × (length (now table) ≤ length (now marks)) × (1 ≤ length (now guesses)) × (length (now guesses) ≤ 4096) ⌝ }
     ensures { λ r. ⌜ (r ≡ allIn (now (table .entry)) (now (values .entry)))
         × (r ≡ true → now (marks .exit) ≡ marked (now (marks .entry)) (map (codeIn (now (table .entry))) (now (values .entry)))) ⌝ }
 {
     let mut i = 0;
     while i < values.len() {
         let b = signed::biased(values[i]);
-        let k = tables::place(table, b);
+        let k = tables::place_of(guesses, table, b);
         if !tables::has(table, k, b) {
             return false;
         }
@@ -68,6 +68,20 @@ fn mark(marks: &mut [u8], table: &[i64], values: &[i64]) -> bool
         i += 1;
     }
     true
+}
+
+// The same, with guesses of its own.
+fn mark(marks: &mut [u8], table: &[i64], values: &[i64]) -> bool
+    requires { ⌜ (ascends (now table) ≡ true) × (length (now table) ≤ length (now marks)) ⌝ }
+    ensures { λ r. ⌜ (r ≡ allIn (now (table .entry)) (now (values .entry)))
+        × (r ≡ true → now (marks .exit) ≡ marked (now (marks .entry)) (map (codeIn (now (table .entry))) (now (values .entry)))) ⌝ }
+{
+    if values.len() < tables::MANY {
+        let mut few = [0u8; 256];
+        return mark_by(marks, &mut few, table, values);
+    }
+    let mut guesses = [0u8; 4096];
+    mark_by(marks, &mut guesses, table, values)
 }
 
 // Whether the entries, which ascend, are the values, and no other.

@@ -23,9 +23,10 @@ fn put_entries(out: &mut [u8], table: &[i64])
 }
 
 // Writes a code for each value to the front of out.
-fn put_codes(out: &mut [u8], table: &[i64], values: &[i64])
+fn put_codes_by(out: &mut [u8], guesses: &mut [u8], table: &[i64], values: &[i64])
     requires { ⌜ (1 ≤ length (now table)) × (length (now table) ≤ 256) × (ascends (now table) ≡ true) × (allIn (now table) (now values) ≡ true)
-        × (packedBytes (length (now values)) (codeWidth (length (now table))) ≤ length (now out)) ⌝ }
+        × (packedBytes (length (now values)) (codeWidth (length (now table))) ≤ length (now out))
+        × (1 ≤ length (now guesses)) × (length (now guesses) ≤ 4096) ⌝ }
     ensures { λ _. ⌜ now (out .exit) ≡ packed (codeWidth (length (now (table .entry)))) (map (codeIn (now (table .entry))) (now (values .entry)))
         ++ drop (packedBytes (length (now (values .entry))) (codeWidth (length (now (table .entry))))) (now (out .entry)) ⌝ }
 {
@@ -37,11 +38,27 @@ fn put_codes(out: &mut [u8], table: &[i64], values: &[i64])
     };
     let mut i = 0;
     while i < values.len() {
-        let code = tables::place(table, signed::biased(values[i]));
+        let code = tables::place_of(guesses, table, signed::biased(values[i]));
         p = packing::push(out, p, w, numbers::long(code));
         i += 1;
     }
     packing::finish(out, p);
+}
+
+// The same, with guesses of its own.
+fn put_codes(out: &mut [u8], table: &[i64], values: &[i64])
+    requires { ⌜ (1 ≤ length (now table)) × (length (now table) ≤ 256) × (ascends (now table) ≡ true) × (allIn (now table) (now values) ≡ true)
+        × (packedBytes (length (now values)) (codeWidth (length (now table))) ≤ length (now out)) ⌝ }
+    ensures { λ _. ⌜ now (out .exit) ≡ packed (codeWidth (length (now (table .entry)))) (map (codeIn (now (table .entry))) (now (values .entry)))
+        ++ drop (packedBytes (length (now (values .entry))) (codeWidth (length (now (table .entry))))) (now (out .entry)) ⌝ }
+{
+    if values.len() < tables::MANY {
+        let mut few = [0u8; 256];
+        put_codes_by(out, &mut few, table, values);
+        return;
+    }
+    let mut guesses = [0u8; 4096];
+    put_codes_by(out, &mut guesses, table, values);
 }
 
 // Writes the value section to the front of out, the part of the output that starts where the section starts. The table ascends and holds every

@@ -57,6 +57,43 @@ pub fn ascending(table: &[i64]) -> bool
     true
 }
 
+// ---- guesses
+
+// From so many values on a list has 4096 guesses; a shorter one has 256, since they are cleared first.
+pub const MANY: usize = 128;
+
+// The slot, of m, that has the guess for a value: each half of its biased form times an odd number, so that values of any pattern spread.
+fn slot_of(b: u64, m: usize) -> usize
+    requires { ⌜ (1 ≤ m) × (m ≤ 4096) ⌝ }
+    ensures { λ r. ⌜ r < m ⌝ }
+{
+    let spread = (b / 4294967296) * 898614065 + (b % 4294967296) * 1969558475;
+    (spread % 4294967296) as usize * m / 4294967296
+}
+
+// A guess as a place.
+fn wide(guess: u8) -> usize
+    ensures { λ r. ⌜ r ≡ guess ⌝ }
+{
+    guess as usize
+}
+
+// The same as `place`, and mostly without a search: a value is mostly one that was sought before, so where each was found is kept in its slot,
+// as a guess for the next time. A guess is tested, so none need be right: with any guesses at all the place is the value's own.
+pub fn place_of(guesses: &mut [u8], table: &[i64], b: u64) -> usize
+    requires { ⌜ (1 ≤ length (now guesses)) × (length (now guesses) ≤ 4096) × (ascends (now table) ≡ true) ⌝ }
+    ensures { λ r. ⌜ (r ≡ codeIn (now (table .entry)) (unbiased b)) × (r ≤ length (now (table .entry))) ⌝ }
+{
+    let s = slot_of(b, guesses.len());
+    let guess = wide(guesses[s]);
+    if has(table, guess, b) {
+        return guess;
+    }
+    let k = place(table, b);
+    guesses[s] = (k % 256) as u8;
+    k
+}
+
 // ---- the distinct values
 
 // Puts a value, in its biased form, among the first n entries at place k: those from there on move up by one.
@@ -77,11 +114,11 @@ fn put_in(table: &mut [i64], n: usize, k: usize, b: u64)
 
 // Puts a value among the first n entries, which ascend, unless it is there. How many there are then; if there is no room for it, one more than
 // the table has.
-fn added(table: &mut [i64], n: usize, b: u64) -> usize
-    requires { ⌜ (n ≤ length (now table)) × (ascends (take n (now table)) ≡ true) ⌝ }
+fn added(table: &mut [i64], guesses: &mut [u8], n: usize, b: u64) -> usize
+    requires { ⌜ (n ≤ length (now table)) × (ascends (take n (now table)) ≡ true) × (1 ≤ length (now guesses)) × (length (now guesses) ≤ 4096) ⌝ }
     ensures { λ r. ⌜ Holds (length (now (table .entry))) (insert (unbiased b) (take n (now (table .entry)))) r (now (table .exit)) ⌝ }
 {
-    let k = place(&table[..n], b);
+    let k = place_of(guesses, &table[..n], b);
     if has(&table[..n], k, b) {
         return n;
     }
@@ -94,19 +131,32 @@ fn added(table: &mut [i64], n: usize, b: u64) -> usize
 
 // The distinct values, ascending, as the table's first entries, and how many they are: in one pass that stops where the table has no room for
 // them, and then says one more than it has.
-pub fn distinct(table: &mut [i64], values: &[i64]) -> usize
+fn gathered(table: &mut [i64], guesses: &mut [u8], values: &[i64]) -> usize
+    requires { ⌜ (1 ≤ length (now guesses)) × (length (now guesses) ≤ 4096) ⌝ }
     ensures { λ r. ⌜ Holds (length (now (table .entry))) (tableOf (now (values .entry))) r (now (table .exit)) ⌝ }
 {
     let mut n: usize = 0;
     let mut i: usize = 0;
     while i < values.len() {
-        n = added(table, n, signed::biased(values[i]));
+        n = added(table, guesses, n, signed::biased(values[i]));
         if n > table.len() {
             return n;
         }
         i += 1;
     }
     n
+}
+
+// The same, with guesses of its own.
+pub fn distinct(table: &mut [i64], values: &[i64]) -> usize
+    ensures { λ r. ⌜ Holds (length (now (table .entry))) (tableOf (now (values .entry))) r (now (table .exit)) ⌝ }
+{
+    if values.len() < MANY {
+        let mut few = [0u8; 256];
+        return gathered(table, &mut few, values);
+    }
+    let mut guesses = [0u8; 4096];
+    gathered(table, &mut guesses, values)
 }
 
 // ---- marks
