@@ -1,4 +1,4 @@
-// The library's writer beside the second writer. A value v is handed over as v + 2^63.
+// The library's writer beside the second writer. A value is handed over in two's complement.
 use answers::Reply;
 use lists::Kinds;
 use lists::Runs;
@@ -146,7 +146,26 @@ fn written(
     numbers_of(signalfern::write(ids, &signed[0..n], edition, power, &mut out[0..end]))
 }
 
-// The outcome on which both writers agree, with at most 80000 values and 300000 bytes of room; the output starts with those bytes.
+// Both, if they agree and the output starts with those bytes.
+fn compared(
+    ids: &[u32],
+    values: &[u64],
+    edition: u32,
+    power: u32,
+    room: u64,
+    bytes: &[u8],
+    own: &mut [u8],
+    out: &mut [u8],
+    signed: &mut [i64],
+) -> Outcome {
+    lists::sign(signed, values);
+    let want = expected(ids, values, edition, power, room, own);
+    let got = written(ids, signed, values.len(), edition, power, room, out);
+    agreed(want, got, own, out, bytes)
+}
+
+// The outcome on which both writers agree, with at most 80000 values and 300000 bytes of room; the output starts with those bytes. (The check
+// goes through an array each time that it is lent: each is lent once.)
 pub fn both(
     ids: &[u32],
     values: &[u64],
@@ -155,13 +174,17 @@ pub fn both(
     room: u64,
     bytes: &[u8],
 ) -> Outcome {
-    let mut own = [0u8; 300000];
-    let mut out = [0u8; 300000];
-    let mut signed = [0i64; 80000];
-    lists::sign(&mut signed, values);
-    let want = expected(ids, values, edition, power, room, &mut own);
-    let got = written(ids, &signed, values.len(), edition, power, room, &mut out);
-    agreed(want, got, &own, &out, bytes)
+    compared(
+        ids,
+        values,
+        edition,
+        power,
+        room,
+        bytes,
+        &mut [0u8; 300000],
+        &mut [0u8; 300000],
+        &mut [0i64; 80000],
+    )
 }
 
 // With no room, one byte short, just room and some to spare. Answers with the column's bytes, or 0 for a disagreement.
@@ -181,8 +204,17 @@ fn at_rooms(ids: &[u32], values: &[u64], edition: u32, power: u32) -> u64 {
     n
 }
 
-// The first n pairs of the lists.
-fn first_pairs(ids: &[u32], values: &[u64], n: usize, edition: u32, power: u32) -> u64 {
+// The list in these places.
+fn listed(
+    runs: Runs,
+    kinds: Kinds,
+    edition: u32,
+    power: u32,
+    ids: &mut [u32],
+    values: &mut [u64],
+) -> u64 {
+    let n = lists::fill_ids(ids, runs) as usize;
+    lists::fill_values(values, kinds);
     if n > ids.len() {
         return 0;
     }
@@ -192,11 +224,14 @@ fn first_pairs(ids: &[u32], values: &[u64], n: usize, edition: u32, power: u32) 
     at_rooms(&ids[0..n], &values[0..n], edition, power)
 }
 
-// One list, of at most 80000 pairs, so. Answers with the column's bytes, or 0 for a disagreement.
+// One list, of at most 80000 pairs. Answers with the column's bytes, or 0 for a disagreement.
 pub fn list(runs: Runs, kinds: Kinds, edition: u32, power: u32) -> u64 {
-    let mut ids = [0u32; 80000];
-    let mut values = [0u64; 80000];
-    let n = lists::fill_ids(&mut ids, runs) as usize;
-    lists::fill_values(&mut values, kinds);
-    first_pairs(&ids, &values, n, edition, power)
+    listed(
+        runs,
+        kinds,
+        edition,
+        power,
+        &mut [0u32; 80000],
+        &mut [0u64; 80000],
+    )
 }

@@ -4,7 +4,8 @@ use super::both;
 use super::both::is;
 use super::say;
 use super::say::Tally;
-use lists::ZERO;
+use lists::GREATEST;
+use lists::LEAST;
 
 // Do both writers write that column?
 fn column(
@@ -27,11 +28,11 @@ fn columns(t: Tally) -> Tally {
         b"ids 0, 2, 7 at p 9, 27 bytes",
         b"\x01\x03\x09\x10\x00\x02\x8E\x02\x05\x01\x00\x00\x02\x00\x00\x00\x02\x00\x07\x00\xFF\x7F\x00\x00\xFF\xFF\xD0",
         &[0u32, 2, 7],
-        &[ZERO + 150, ZERO + 140, ZERO + 135],
+        &[150u64, 140, 135],
         1,
         9,
     );
-    let t = column(
+    column(
         t,
         b"no pairs at p 9, 23 bytes",
         b"\x01\x00\x09\x0E\x01\x00\x00\x01\x00\xFF\x7F\x00\x00\xFF\xFF\x00\x00\x00\x00\x00\x00\x00\x00",
@@ -39,14 +40,17 @@ fn columns(t: Tally) -> Tally {
         &[0u64; 0],
         1,
         9,
-    );
+    )
+}
+
+fn jumps(t: Tally) -> Tally {
     column(
         t,
         b"id 65536 at p 0, 45 bytes",
         b"\x01\x01\x00\x24\x03\x00\x01\x01\x00\x01\x00\x00\x00\x00\x00\xFF\x7F\x00\x00\xFF\xFF\x00\x00\x00\
           \x00\x00\x00\x00\x00\x00\x00\x00\x00\x00\x00\x00\x00\x01\x00\x00\x00\x06\x00\x00\x00",
         &[65536u32],
-        &[ZERO - 1],
+        &[!0u64],
         1,
         0,
     )
@@ -55,7 +59,7 @@ fn columns(t: Tally) -> Tally {
 // A column of that many ids of block 0, each value 7, and its bytes: a header of 11, the block, 6 for the end block. The header is 11
 // because its numbers take a byte each, but two for a count below 16384 and for an L above 127, and three for the count 65536.
 fn block(t: Tally, name: &[u8], count: u64, power: u32, bytes: u64) -> Tally {
-    let sevens = lists::all(lists::kind(ZERO + 7, 0, 0));
+    let sevens = lists::all(lists::kind(7, 0, 0));
     let n = both::list(lists::one(0, 1, count), sevens, 1, power);
     say::case(t, name, n == std::num::wrapping_add_u64(bytes, 17))
 }
@@ -79,8 +83,8 @@ fn extremes(t: Tally) -> Tally {
         b"smallest and greatest value: divisor 2^64 - 1, width 1",
         b"\x01\x02\x09\x0E\x00\x01\xFF\xFF\xFF\xFF\xFF\xFF\xFF\xFF\xFF\x01\xFF\xFF\xFF\xFF\xFF\xFF\xFF\xFF\
           \xFF\x01\x01\x00\x00\x01\x00\x00\x00\x01\x00\xFF\x7F\x00\x00\xFF\xFF\x40",
-        0,
-        18446744073709551615,
+        LEAST,
+        GREATEST,
     );
     // The divisor 2^63 is 80 nine times, then 01.
     two(
@@ -88,8 +92,8 @@ fn extremes(t: Tally) -> Tally {
         b"smallest value and 0: divisor 2^63, width 1",
         b"\x01\x02\x09\x0E\x00\x01\xFF\xFF\xFF\xFF\xFF\xFF\xFF\xFF\xFF\x01\x80\x80\x80\x80\x80\x80\x80\x80\
           \x80\x01\x01\x00\x00\x01\x00\x00\x00\x01\x00\xFF\x7F\x00\x00\xFF\xFF\x40",
+        LEAST,
         0,
-        ZERO,
     )
 }
 
@@ -100,8 +104,8 @@ fn scores(t: Tally) -> Tally {
         t,
         b"values 7 and 10: divisor 3, width 1",
         b"\x01\x02\x09\x0E\x00\x01\x0E\x03\x01\x00\x00\x01\x00\x00\x00\x01\x00\xFF\x7F\x00\x00\xFF\xFF\x40",
-        ZERO + 7,
-        ZERO + 10,
+        7,
+        10,
     );
     // Three ids: L 16 (10). The smallest value is -9 (11). Stored are 2, 0 and 1 at width 2: bits 100001.
     column(
@@ -109,7 +113,7 @@ fn scores(t: Tally) -> Tally {
         b"values 5, -9 and -2: divisor 7, width 2",
         b"\x01\x03\x09\x10\x00\x02\x11\x07\x01\x00\x00\x02\x00\x00\x00\x01\x00\x02\x00\xFF\x7F\x00\x00\xFF\xFF\x84",
         &[0u32, 1, 2],
-        &[ZERO + 5, ZERO - 9, ZERO - 2],
+        &[5u64, !8, !1],
         1,
         9,
     )
@@ -117,7 +121,7 @@ fn scores(t: Tally) -> Tally {
 
 // Do both writers answer so to one id and two values?
 fn lengths(t: Tally, name: &[u8], edition: u32) -> Tally {
-    let r = both::both(&[1u32], &[0u64, ZERO], edition, 6, 0, b"");
+    let r = both::both(&[1u32], &[LEAST, 0], edition, 6, 0, b"");
     say::case(t, name, is(r, 1, 0))
 }
 
@@ -132,7 +136,7 @@ fn answers(
     number: u64,
     with: u64,
 ) -> Tally {
-    let r = both::both(ids, &[0u64, ZERO], 1, power, room, b"");
+    let r = both::both(ids, &[LEAST, 0], 1, power, room, b"");
     say::case(t, name, is(r, number, with))
 }
 
@@ -178,26 +182,18 @@ fn editions(t: Tally) -> Tally {
         b"\x02\x08\x09\x1A\x00\x02\x00\x01\x02\x00\x00\x07\x00\x00\x00\x01\x00\x02\x00\x03\x00\x04\x00\x05\x00\
           \x06\x00\x07\x00\xFF\x7F\x00\x00\xFF\xFF\x15\x0A",
         &[0u32, 1, 2, 3, 4, 5, 6, 7],
-        &[
-            ZERO + 1,
-            ZERO + 1,
-            ZERO + 1,
-            ZERO,
-            ZERO + 2,
-            ZERO + 2,
-            ZERO,
-            ZERO,
-        ],
+        &[1u64, 1, 1, 0, 2, 2, 0, 0],
         2,
         9,
     );
     let t = lengths(t, b"edition 9, one id and two values: LENGTHS", 9);
-    let r = both::both(&[0u32, 1], &[0u64, ZERO], 9, 6, 100, b"");
+    let r = both::both(&[0u32, 1], &[LEAST, 0], 9, 6, 100, b"");
     say::case(t, b"edition 9 at p 6: EDITION", is(r, 9, 0))
 }
 
 pub fn lines(t: Tally) -> Tally {
     let t = columns(t);
+    let t = jumps(t);
     let t = blocks(t);
     let t = extremes(t);
     let t = scores(t);

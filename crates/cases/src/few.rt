@@ -25,7 +25,7 @@ pub fn proposed(values: &[u64]) -> u64 {
 // Is a table of so many entries proposed for n values, so many of them distinct, and do both write the same?
 fn of_distinct(t: Tally, n: u64, distinct: u64, entries: u64) -> Tally {
     let k = lists::all(Values {
-        smallest: 0,
+        smallest: lists::LEAST,
         most: MOST,
         shift: 0,
         again: distinct,

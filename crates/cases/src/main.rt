@@ -8,9 +8,9 @@ mod planning;
 mod runs;
 mod say;
 
+use lists::LEAST;
 use lists::Run;
 use lists::Runs;
-use lists::ZERO;
 use lists::kind;
 use lists::run_of;
 use say::Tally;
@@ -22,7 +22,7 @@ fn power_of(k: u32) -> u32 {
 
 // The ids at each rank power, with values of a few bits around 0.
 fn at_powers(t: Tally, name: &[u8], ids: Runs) -> Tally {
-    let values = lists::all(kind(ZERO - 6, 7, 1));
+    let values = lists::all(kind(!5, 7, 1));
     let mut more = Tally::none();
     for k in 0..10u32 {
         more = more.with(both::list(ids, values, 1, power_of(k)) > 0);
@@ -93,7 +93,7 @@ fn blocks_of_three_kinds(t: Tally) -> Tally {
 
 // Values of a width from the smallest value up, each stored number times 2^shift.
 fn of_width(mask: u64, shift: u64) -> bool {
-    let values = lists::all(kind(0, mask, shift));
+    let values = lists::all(kind(LEAST, mask, shift));
     both::list(lists::one(5, 3, 67), values, 1, 9) > 0
 }
 
@@ -129,7 +129,7 @@ fn last(k: u64) -> u64 {
 
 // Edition 2: n values, of which the greatest stored number is the last that fits a width, or one more.
 fn at_border(n: u64, last: u64, more: u64) -> bool {
-    let values = kind(0, std::num::wrapping_add_u64(last, more), 0);
+    let values = kind(LEAST, std::num::wrapping_add_u64(last, more), 0);
     both::list(lists::one(5, 3, n), lists::all(values), 2, 9) > 0
 }
 

@@ -4,9 +4,11 @@ use super::both::is;
 use super::few;
 use super::say;
 use super::say::Tally;
-use lists::ZERO;
+use lists::GREATEST;
+use lists::LEAST;
 
-const TOP: u64 = 18446744073709551615;
+// -2^62.
+const QUARTER: u64 = 13835058055282163712;
 
 // Does the planner propose so many entries?
 fn proposes(t: Tally, name: &[u8], values: &[u64], entries: u64) -> Tally {
@@ -15,7 +17,7 @@ fn proposes(t: Tally, name: &[u8], values: &[u64], entries: u64) -> Tally {
 
 // Do both writers answer so to this plan for the values 5, 6, 5, 6, 3000?
 fn five(t: Tally, name: &[u8], table: &[u64], number: u64, with: u64) -> Tally {
-    let values = [ZERO + 5, ZERO + 6, ZERO + 5, ZERO + 6, ZERO + 3000];
+    let values = [5u64, 6, 5, 6, 3000];
     let r = both::planned(&[0u32, 1, 2, 3, 4], &values, table, 9, 100);
     say::case(t, name, is(r, number, with))
 }
@@ -23,22 +25,25 @@ fn five(t: Tally, name: &[u8], table: &[u64], number: u64, with: u64) -> Tally {
 // Edition 1 stores 0, 1, 0, 1 and 2995 at width 12: 8 bytes, and a header of 9. The ids take 20 bytes: 37. With the table it would be 9, 20, 24
 // and 2: 55.
 fn document(t: Tally) -> Tally {
-    let values = [ZERO + 5, ZERO + 6, ZERO + 5, ZERO + 6, ZERO + 3000];
     let t = five(
         t,
         b"values 5, 6, 5, 6, 3000 by their table: PLAN",
-        &[ZERO + 5, ZERO + 6, ZERO + 3000],
+        &[5u64, 6, 3000],
         17,
         0,
     );
-    let t = five(
+    five(
         t,
         b"the same, plain: edition 1, 37 bytes",
         &[0u64; 0],
         0,
         37,
-    );
-    let told = both::both(
+    )
+}
+
+fn planner(t: Tally) -> Tally {
+    let values = [5u64, 6, 5, 6, 3000];
+    let r = both::both(
         &[0u32, 1, 2, 3, 4],
         &values,
         4,
@@ -49,14 +54,14 @@ fn document(t: Tally) -> Tally {
     let t = say::case(
         t,
         b"the same, told edition 4: edition 1, 37 bytes",
-        is(told, 0, 37),
+        is(r, 0, 37),
     );
     proposes(t, b"the same, planned: plain", &values, 0)
 }
 
 // Do both writers answer so to a plan for the smallest value, 0 and the greatest at the ids 0, 2, 7?
 fn three(t: Tally, name: &[u8], table: &[u64], room: u64, number: u64, with: u64) -> Tally {
-    let r = both::planned(&[0u32, 2, 7], &[0u64, ZERO, TOP], table, 9, room);
+    let r = both::planned(&[0u32, 2, 7], &[LEAST, 0, GREATEST], table, 9, room);
     say::case(t, name, is(r, number, with))
 }
 
@@ -67,7 +72,7 @@ fn rejected(t: Tally, name: &[u8], table: &[u64]) -> Tally {
 // Ids 0, 2, 7: L 16. A header of 9, the ids, a table of 24 and one byte of codes: 50. Edition 1 has the difference 2^63 and 2^64-1, which have no
 // divisor but 1, and so width 64: a header of 18, 16 and 24, 58.
 fn plans(t: Tally) -> Tally {
-    let own = [0u64, ZERO, TOP];
+    let own = [LEAST, 0, GREATEST];
     let t = three(
         t,
         b"the smallest value, 0 and the greatest by their table: 50 bytes",
@@ -77,26 +82,29 @@ fn plans(t: Tally) -> Tally {
         50,
     );
     let t = three(t, b"the same, one byte short: ROOM", &own, 49, 6, 50);
-    rejected(t, b"one entry: PLAN", &[0u64])
+    rejected(t, b"one entry: PLAN", &[LEAST])
 }
 
 // Tables that are not that of the values.
 fn tables(t: Tally) -> Tally {
-    let t = rejected(t, b"a missing value: PLAN, before ROOM", &[0u64, TOP]);
-    let t = rejected(t, b"an unused entry: PLAN", &[0u64, ZERO, ZERO + 1, TOP]);
-    let t = rejected(t, b"a descending pair: PLAN", &[ZERO, 0u64, TOP]);
-    let t = rejected(t, b"an entry twice: PLAN", &[0u64, ZERO, ZERO, TOP]);
+    let t = rejected(t, b"a missing value: PLAN, before ROOM", &[LEAST, GREATEST]);
+    rejected(t, b"an unused entry: PLAN", &[LEAST, 0, 1, GREATEST])
+}
+
+// Tables that do not ascend, or are too long.
+fn not_ascending(t: Tally) -> Tally {
+    let t = rejected(t, b"a descending pair: PLAN", &[0, LEAST, GREATEST]);
+    let t = rejected(t, b"an entry twice: PLAN", &[LEAST, 0, 0, GREATEST]);
     rejected(t, b"257 entries: PLAN", &[0u64; 257])
 }
 
-// Do both writers refuse so these ids with three values and a plan of one entry, which is rejected?
+// Do both writers refuse so these ids with three values and a plan of one entry, which is rejected? Refusals 1 to 4 come before 17.
 fn before(t: Tally, name: &[u8], ids: &[u32], power: u32, number: u64, with: u64) -> Tally {
-    let r = both::planned(ids, &[0u64, ZERO, TOP], &[ZERO], power, 0);
+    let r = both::planned(ids, &[LEAST, 0, GREATEST], &[0u64], power, 0);
     say::case(t, name, is(r, number, with))
 }
 
-// Refusals 1 to 4 come before 17.
-fn order(t: Tally) -> Tally {
+fn first_refusals(t: Tally) -> Tally {
     let t = before(
         t,
         b"a rejected plan, two ids and three values: LENGTHS",
@@ -105,7 +113,10 @@ fn order(t: Tally) -> Tally {
         1,
         0,
     );
-    let t = before(t, b"a rejected plan at p 6: POWER", &[4u32, 4, 4], 6, 2, 0);
+    before(t, b"a rejected plan at p 6: POWER", &[4u32, 4, 4], 6, 2, 0)
+}
+
+fn refused_ids(t: Tally) -> Tally {
     let t = before(
         t,
         b"a rejected plan, ids 0, 7, 2: ORDER, index 2",
@@ -133,8 +144,8 @@ fn pair(t: Tally, name: &[u8], both_values: &[u64], number: u64, with: u64) -> T
 // Ids 0 and 1: L 14. With a table: a header of 9, 14, 16 and 1, 40. Edition 1 stores 0 and 1 at width 1 in one byte, by the divisor 2^62, which
 // takes 9 bytes of the header; the smallest value takes 9 if it is -2^62, and 10 if it is -2^63: 40 and 41.
 fn lengths(t: Tally) -> Tally {
-    let equal = [ZERO - 4611686018427387904, ZERO];
-    let shorter = [0u64, ZERO - 4611686018427387904];
+    let equal = [QUARTER, 0];
+    let shorter = [LEAST, QUARTER];
     let t = pair(t, b"-2^62 and 0, as long with a table: PLAN", &equal, 17, 0);
     let t = proposes(t, b"-2^62 and 0, planned: plain", &equal, 0);
     let t = pair(
@@ -149,8 +160,11 @@ fn lengths(t: Tally) -> Tally {
 
 pub fn lines(t: Tally) -> Tally {
     let t = document(t);
+    let t = planner(t);
     let t = plans(t);
     let t = tables(t);
-    let t = order(t);
+    let t = not_ascending(t);
+    let t = first_refusals(t);
+    let t = refused_ids(t);
     lengths(t)
 }

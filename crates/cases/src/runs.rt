@@ -4,7 +4,7 @@ use super::both;
 use super::say;
 use super::say::Tally;
 use lists::Kinds;
-use lists::ZERO;
+use lists::LEAST;
 use lists::kind;
 
 fn of_count(t: Tally, k: Kinds, n: u64) -> Tally {
@@ -23,12 +23,12 @@ fn of_kinds(t: Tally, name: &[u8], k: Kinds) -> Tally {
 // Small numbers around 0, and far from it; all in steps of 8. Then width 0 beside width 64, and the other way round.
 pub fn lists_of_runs(t: Tally) -> Tally {
     let small = Kinds {
-        first: kind(ZERO - 40, 15, 3),
-        second: kind(ZERO + 8000000000, 3, 3),
-        third: kind(ZERO - 16, 1023, 3),
+        first: kind(!39, 15, 3),
+        second: kind(8000000000, 3, 3),
+        third: kind(!15, 1023, 3),
     };
-    let equal = kind(ZERO + 7, 0, 0);
-    let wide = kind(0, 18446744073709551615, 0);
+    let equal = kind(7, 0, 0);
+    let wide = kind(LEAST, 18446744073709551615, 0);
     let narrow_wide = Kinds {
         first: equal,
         second: wide,

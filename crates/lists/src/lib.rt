@@ -31,8 +31,10 @@ pub struct Kinds {
     pub third: Values,
 }
 
-// 2^63: the value 0. A value v stands as v + 2^63.
-pub const ZERO: u64 = 9223372036854775808;
+// -2^63, the smallest value, and 2^63 - 1, the greatest. A value stands in two's complement, and beside it the value itself.
+pub const LEAST: u64 = 9223372036854775808;
+
+pub const GREATEST: u64 = 9223372036854775807;
 
 pub fn run_of(first: u64, gap: u64, count: u64) -> Run {
     Run { first, gap, count }
@@ -128,12 +130,11 @@ pub fn fill_values(values: &mut [u64], k: Kinds) {
     }
 }
 
-// x - 2^63.
 fn signed_of(x: u64) -> i64 {
-    if x < ZERO {
-        !((ZERO - 1 - x) as i64)
+    if x < LEAST {
+        x as i64
     } else {
-        (x - ZERO) as i64
+        !((18446744073709551615 - x) as i64)
     }
 }
 

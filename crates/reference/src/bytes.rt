@@ -4,7 +4,7 @@
 // What a place past the end of the ids reads as.
 const NO_ID: u64 = 18446744073709551615;
 
-// 2^63: the value 0. A value v is handed over as v + 2^63, so that all is unsigned.
+// 2^63: the value 0. A value v, handed over in two's complement, is read as v + 2^63, so that all is unsigned and in order.
 pub const ZERO: u64 = 9223372036854775808;
 
 pub fn plus(a: u64, b: u64) -> u64 {
@@ -35,7 +35,11 @@ pub fn id(ids: &[u32], i: u64) -> u64 {
 
 pub fn value(values: &[u64], i: u64) -> u64 {
     let at = i as usize;
-    if at < values.len() { values[at] } else { ZERO }
+    if at < values.len() {
+        plus(values[at], ZERO)
+    } else {
+        ZERO
+    }
 }
 
 pub fn byte(s: &[u8], i: u64) -> u64 {

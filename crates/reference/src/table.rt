@@ -39,7 +39,7 @@ fn above(values: &[u64], v: u64) -> u64 {
 fn store(table: &mut [u64], k: u64, v: u64) {
     let at = k as usize;
     if at < table.len() {
-        table[at] = v;
+        table[at] = plus(v, ZERO);
     }
 }
 
