@@ -1,7 +1,7 @@
 // The library's writer beside the second writer. A value is handed over in two's complement.
 use answers::Reply;
-use lists::Kinds;
 use lists::Runs;
+use lists::Values;
 use reference::Outcome;
 
 // Numbers that are no refusal's: the writers disagree; the program has no such room to lend.
@@ -37,76 +37,6 @@ fn agreed(want: Outcome, got: Outcome, own: &[u8], out: &[u8], bytes: &[u8]) -> 
     }
     want
 }
-
-// ---- by a plan (document 02, [12])
-
-fn expected_by(
-    ids: &[u32],
-    values: &[u64],
-    table: &[u64],
-    power: u32,
-    room: u64,
-    own: &mut [u8],
-) -> Outcome {
-    let end = room as usize;
-    if end > own.len() {
-        return outcome(UNTRIED, 0);
-    }
-    lists::paint(own);
-    let edition = if table.len() == 0 { 1 } else { 4 };
-    reference::write_by(ids, values, table, edition, power as u64, &mut own[0..end])
-}
-
-fn written_by(
-    ids: &[u32],
-    signed: &[i64],
-    table: &[i64],
-    power: u32,
-    room: u64,
-    out: &mut [u8],
-) -> Outcome {
-    let end = room as usize;
-    if end > out.len() {
-        return outcome(UNTRIED, 0);
-    }
-    lists::paint(out);
-    numbers_of(signalfern::write_planned(ids, signed, table, power, &mut out[0..end]))
-}
-
-// The library's, of at most 8 values.
-fn signed_by(
-    ids: &[u32],
-    values: &[u64],
-    table: &[u64],
-    power: u32,
-    room: u64,
-    out: &mut [u8],
-) -> Outcome {
-    let mut signed = [0i64; 8];
-    let mut entries = [0i64; 257];
-    let n = values.len();
-    let t = table.len();
-    if n > 8 {
-        return outcome(UNTRIED, 0);
-    }
-    if t > 257 {
-        return outcome(UNTRIED, 0);
-    }
-    lists::sign(&mut signed, values);
-    lists::sign(&mut entries, table);
-    written_by(ids, &signed[0..n], &entries[0..t], power, room, out)
-}
-
-// The outcome on which both writers agree, with at most 100 bytes of room, and they agree on 16 bytes after them that they were not lent.
-pub fn planned(ids: &[u32], values: &[u64], table: &[u64], power: u32, room: u64) -> Outcome {
-    let mut own = [0u8; 116];
-    let mut out = [0u8; 116];
-    let want = expected_by(ids, values, table, power, room, &mut own);
-    let got = signed_by(ids, values, table, power, room, &mut out);
-    agreed(want, got, &own, &out, b"")
-}
-
-// ---- by an edition
 
 // The second writer, on painted bytes with that much room.
 fn expected(
@@ -146,7 +76,7 @@ fn written(
     numbers_of(signalfern::write(ids, &signed[0..n], edition, power, &mut out[0..end]))
 }
 
-// Both, if they agree and the output starts with those bytes.
+// Both, if they agree and the output starts with those bytes. (An array that is lent as such needs no proof of its length.)
 fn compared(
     ids: &[u32],
     values: &[u64],
@@ -154,9 +84,9 @@ fn compared(
     power: u32,
     room: u64,
     bytes: &[u8],
-    own: &mut [u8],
-    out: &mut [u8],
-    signed: &mut [i64],
+    own: &mut [u8; 300000],
+    out: &mut [u8; 300000],
+    signed: &mut [i64; 80000],
 ) -> Outcome {
     lists::sign(signed, values);
     let want = expected(ids, values, edition, power, room, own);
@@ -164,8 +94,7 @@ fn compared(
     agreed(want, got, own, out, bytes)
 }
 
-// The outcome on which both writers agree, with at most 80000 values and 300000 bytes of room; the output starts with those bytes. (The check
-// goes through an array each time that it is lent: each is lent once.)
+// The outcome on which both writers agree, with at most 80000 values and 300000 bytes of room; the output starts with those bytes.
 pub fn both(
     ids: &[u32],
     values: &[u64],
@@ -207,14 +136,14 @@ fn at_rooms(ids: &[u32], values: &[u64], edition: u32, power: u32) -> u64 {
 // The list in these places.
 fn listed(
     runs: Runs,
-    kinds: Kinds,
+    v: Values,
     edition: u32,
     power: u32,
     ids: &mut [u32],
     values: &mut [u64],
 ) -> u64 {
     let n = lists::fill_ids(ids, runs) as usize;
-    lists::fill_values(values, kinds);
+    lists::fill_values(values, v);
     if n > ids.len() {
         return 0;
     }
@@ -225,10 +154,10 @@ fn listed(
 }
 
 // One list, of at most 80000 pairs. Answers with the column's bytes, or 0 for a disagreement.
-pub fn list(runs: Runs, kinds: Kinds, edition: u32, power: u32) -> u64 {
+pub fn list(runs: Runs, v: Values, edition: u32, power: u32) -> u64 {
     listed(
         runs,
-        kinds,
+        v,
         edition,
         power,
         &mut [0u32; 80000],

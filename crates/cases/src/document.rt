@@ -59,7 +59,7 @@ fn jumps(t: Tally) -> Tally {
 // A column of that many ids of block 0, each value 7, and its bytes: a header of 11, the block, 6 for the end block. The header is 11
 // because its numbers take a byte each, but two for a count below 16384 and for an L above 127, and three for the count 65536.
 fn block(t: Tally, name: &[u8], count: u64, power: u32, bytes: u64) -> Tally {
-    let sevens = lists::all(lists::kind(7, 0, 0));
+    let sevens = lists::values_of(7, 0, 0);
     let n = both::list(lists::one(0, 1, count), sevens, 1, power);
     say::case(t, name, n == std::num::wrapping_add_u64(bytes, 17))
 }

@@ -1,18 +1,15 @@
-// The documents' cases for the writer, lists beside them and plans, each written by the library and by the second writer; and numbers, fetched by
-// both.
+// The documents' cases for the writer and lists beside them, in editions 1 and 2, each written by the library and by the second writer; and
+// numbers, fetched by both.
 mod both;
 mod document;
 mod fetching;
-mod few;
-mod planning;
-mod runs;
 mod say;
 
 use lists::LEAST;
 use lists::Run;
 use lists::Runs;
-use lists::kind;
 use lists::run_of;
+use lists::values_of;
 use say::Tally;
 
 // The k-th rank power: 0, then 7 to 15.
@@ -22,7 +19,7 @@ fn power_of(k: u32) -> u32 {
 
 // The ids at each rank power, with values of a few bits around 0.
 fn at_powers(t: Tally, name: &[u8], ids: Runs) -> Tally {
-    let values = lists::all(kind(!5, 7, 1));
+    let values = values_of(!5, 7, 1);
     let mut more = Tally::none();
     for k in 0..10u32 {
         more = more.with(both::list(ids, values, 1, power_of(k)) > 0);
@@ -93,7 +90,7 @@ fn blocks_of_three_kinds(t: Tally) -> Tally {
 
 // Values of a width from the smallest value up, each stored number times 2^shift.
 fn of_width(mask: u64, shift: u64) -> bool {
-    let values = lists::all(kind(LEAST, mask, shift));
+    let values = values_of(LEAST, mask, shift);
     both::list(lists::one(5, 3, 67), values, 1, 9) > 0
 }
 
@@ -129,8 +126,8 @@ fn last(k: u64) -> u64 {
 
 // Edition 2: n values, of which the greatest stored number is the last that fits a width, or one more.
 fn at_border(n: u64, last: u64, more: u64) -> bool {
-    let values = kind(LEAST, std::num::wrapping_add_u64(last, more), 0);
-    both::list(lists::one(5, 3, n), lists::all(values), 2, 9) > 0
+    let values = values_of(LEAST, std::num::wrapping_add_u64(last, more), 0);
+    both::list(lists::one(5, 3, n), values, 2, 9) > 0
 }
 
 // Of 0 to 9 values, at the end of each width and, but for the last, one past it.
@@ -154,8 +151,5 @@ fn main() {
     let t = blocks_of_three_kinds(t);
     let t = widths(t);
     let t = borders(t);
-    let t = runs::lists_of_runs(t);
-    let t = few::lists_of_few(t);
-    let t = planning::lines(t);
     say::total(fetching::numbers(t));
 }

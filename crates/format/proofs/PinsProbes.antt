@@ -6,7 +6,7 @@ use Rattle.format.specs.Refusals.{done}
 use Rattle.format.specs.Bytes.{countFrom}
 use Rattle.format.specs.Ids.{endBlock}
 use Rattle.format.specs.Editions.{editions}
-use Rattle.format.specs.LookUp.{found, absent, hit, miss, halving, scanned, lookUp, lookUpProbes}
+use Rattle.format.specs.LookUp.{found, absent, Sought, hit, miss, halving, scanned, lookUp, lookUpProbes}
 use Rattle.format.specs.Walk.{probes}
 use Rattle.format.proofs.Computing.{computing}
 use Rattle.format.proofs.PinsSteps.{blockHead, sparseBlock, made, fives, secondBy, denseBy}
@@ -14,6 +14,12 @@ use Rattle.format.proofs.PinsSteps.{blockHead, sparseBlock, made, fives
 -- c entries 1, 4, 7 and so on
 unfoldable pub spaced : ℕ → List ℕ
 spaced c = map (λ i. 3 * i + 1) (countFrom c 0)
+
+-- each of these places sought among c such entries
+unfoldable pub halvings : ℕ → List ℕ → List Sought
+halvings c rs =
+    let xs : List ℕ = spaced c in
+    map (λ r. halving r xs) rs
 
 pub record HalvingCases : Type 0 where
   -- no entry: nothing to probe
@@ -35,21 +41,11 @@ pub record HalvingCases : Type 0 where
   pub below-3 : halving 0 (1 ∷ 4 ∷ 7 ∷ []) ≡ miss 2
   pub between-3 : halving 5 (1 ∷ 4 ∷ 7 ∷ []) ≡ miss 2
   pub above-3 : halving 8 (1 ∷ 4 ∷ 7 ∷ []) ≡ miss 2
-  -- the most that a sparse block has, and one less
-  pub first-4094 : halving 1 (spaced 4094) ≡ hit 0 12
-  pub second-4094 : halving 4 (spaced 4094) ≡ hit 1 11
-  pub middle-4094 : halving 6142 (spaced 4094) ≡ hit 2047 1
-  pub last-4094 : halving 12280 (spaced 4094) ≡ hit 4093 11
-  pub below-4094 : halving 0 (spaced 4094) ≡ miss 12
-  pub between-4094 : halving 6143 (spaced 4094) ≡ miss 12
-  pub above-4094 : halving 12281 (spaced 4094) ≡ miss 11
-  pub first-4095 : halving 1 (spaced 4095) ≡ hit 0 12
-  pub second-4095 : halving 4 (spaced 4095) ≡ hit 1 11
-  pub middle-4095 : halving 6142 (spaced 4095) ≡ hit 2047 1
-  pub last-4095 : halving 12283 (spaced 4095) ≡ hit 4094 12
-  pub below-4095 : halving 0 (spaced 4095) ≡ miss 12
-  pub between-4095 : halving 6143 (spaced 4095) ≡ miss 12
-  pub above-4095 : halving 12284 (spaced 4095) ≡ miss 12
+  -- one less than the most that a sparse block has, and the most: the first, the second, the middle and the last entry; below all, between two, above all
+  pub many-4094 : halvings 4094 (1 ∷ 4 ∷ 6142 ∷ 12280 ∷ 0 ∷ 6143 ∷ 12281 ∷ [])
+      ≡ hit 0 12 ∷ hit 1 11 ∷ hit 2047 1 ∷ hit 4093 11 ∷ miss 12 ∷ miss 12 ∷ miss 11 ∷ []
+  pub most-4095 : halvings 4095 (1 ∷ 4 ∷ 6142 ∷ 12283 ∷ 0 ∷ 6143 ∷ 12284 ∷ [])
+      ≡ hit 0 12 ∷ hit 1 11 ∷ hit 2047 1 ∷ hit 4094 12 ∷ miss 12 ∷ miss 12 ∷ miss 12 ∷ []
   -- entries out of order, which the check refuses: what the scan passes by, what it stops before, and another index than its
   pub falling : halving 5 (9 ∷ 5 ∷ 1 ∷ []) ≡ hit 1 1
   pub falling-scanned : scanned 5 (9 ∷ 5 ∷ 1 ∷ []) ≡ none
@@ -59,7 +55,7 @@ pub record HalvingCases : Type 0 where
   pub level-scanned : scanned 5 (5 ∷ 5 ∷ 5 ∷ []) ≡ some 0
 
 pub halving-cases : HalvingCases
-unfolding computing spaced
+unfolding computing spaced halvings
 halving-cases = search
 
 -- ---- in a column
@@ -73,8 +69,9 @@ pub record ProbeCases : Type 0 where
   pub first : lookUpProbes editions (only 3 (1 ∷ 4 ∷ 7 ∷ [])) 1 ≡ 2
   pub middle : lookUpProbes editions (only 3 (1 ∷ 4 ∷ 7 ∷ [])) 4 ≡ 1
   pub between : lookUpProbes editions (only 3 (1 ∷ 4 ∷ 7 ∷ [])) 5 ≡ 2
-  pub most-found : lookUpProbes editions (only 4095 (spaced 4095)) 12283 ≡ 12
-  pub most-absent : lookUpProbes editions (only 4095 (spaced 4095)) 12284 ≡ 12
+  -- 63 entries: at the last one, and above it, six are halved away
+  pub many-found : lookUpProbes editions (only 63 (spaced 63)) 187 ≡ 6
+  pub many-absent : lookUpProbes editions (only 63 (spaced 63)) 188 ≡ 6
   -- the answer on entries out of order is the rule's own: the scan would say absent, 0 and 0
   pub falling-found : lookUp editions (only 3 (9 ∷ 5 ∷ 1 ∷ [])) 5 ≡ done (found 1 (pos 5) 0)
   pub dip-absent : lookUp editions (only 3 (5 ∷ 3 ∷ 9 ∷ [])) 5 ≡ done (absent 0)

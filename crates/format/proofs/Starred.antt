@@ -1,15 +1,21 @@
 -- The starred cases of document 01, "Both sides of each line", as one statement about the definitions. Assumes nothing.
-use Rattle.format.specs.Kit.{_≡_, refl, [], _∷_, _++_, ℕ, _^_, _-_, length, take, replicate, pos, negsuc}
-use Rattle.format.specs.Refusals.{done, refused, SHORT, NUMBER, ORDER, RANGE}
+use Rattle.format.specs.Kit.{_≡_, refl, List, [], _∷_, _++_, ℕ, _^_, _-_, _≤_, le-leb, length, take, replicate, pos, negsuc}
+use Rattle.format.specs.Refusals.{done, refused, andThen, need, given, needNone, SHORT, NUMBER, ORDER, RANGE}
 use Rattle.format.specs.HeaderNumbers.{number, zigzag}
 use Rattle.format.specs.Bits.{packed}
 use Rattle.format.specs.Ids.{rankTable}
 use Rattle.format.specs.Values.{spread, divisor, width}
-use Rattle.format.specs.Editions.{plain, editions}
+use Rattle.format.specs.Editions.{plain, editions, numberOf, editionIn, codec}
+use Rattle.format.specs.Codec.{scaled}
+use Rattle.format.specs.Plan.{chosen}
 use Rattle.format.specs.Column.{column}
-use Rattle.format.specs.Writer.{write}
+use Rattle.format.specs.Writer.{notAbove, orderFault, rangeFault, writeIf, writeAs, write}
 use Rattle.format.specs.Check.{check}
 use Rattle.format.proofs.Computing.{computing}
+
+-- the column of the greatest id alone
+abbrev pub lastColumn : List ℕ
+lastColumn = column plain 9 (2147352575 ∷ []) (pos 0 ∷ [])
 
 pub record Starred : Type 0 where
   -- ids 0, 2, 7; values 150, 140, 135; p 9. Whole column, 27 bytes: 01 03 09 10 00 02 8E 02 05 01 00 00 02 00 00 00 02 00 07 00
@@ -52,8 +58,13 @@ pub record Starred : Type 0 where
   pub order : (room : ℕ) → write 1 9 (4 ∷ 4 ∷ []) (pos 0 ∷ pos 0 ∷ []) room ≡ refused ORDER 1
   -- id 2147352576 alone: RANGE, index 0
   pub range : (room : ℕ) → write 1 9 (2147352576 ∷ []) (pos 0 ∷ []) room ≡ refused RANGE 0
-  -- 2147352575 is taken: its column has 32767 jump entries
-  pub taken : write 1 9 (2147352575 ∷ []) (pos 0 ∷ []) 262161 ≡ done (column plain 9 (2147352575 ∷ []) (pos 0 ∷ []))
+  -- 2147352575 is taken, wherever there is room for its column
+  pub taken : (room : ℕ) → length lastColumn ≤ room → write 1 9 (2147352575 ∷ []) (pos 0 ∷ []) room ≡ done lastColumn
+
+-- lastColumn stays shut: it has 32767 jump entries
+last-taken : (room : ℕ) → length lastColumn ≤ room → write 1 9 (2147352575 ∷ []) (pos 0 ∷ []) room ≡ done lastColumn
+unfolding andThen need given needNone notAbove orderFault rangeFault writeIf writeAs write numberOf editions editionIn codec scaled chosen
+last-taken room h = rw (le-leb (length lastColumn) room h)
 
 pub starred : Starred
 unfolding computing
@@ -78,5 +89,5 @@ starred =
       cut = refl;
       order = λ room. refl;
       range = λ room. refl;
-      taken = refl;
+      taken = last-taken;
     }

@@ -110,11 +110,6 @@ pub bit-past : (w : ℕ) (xs : List ℕ) (j : ℕ) → 0 < w → length xs * w �
 unfolding bitOf
 bit-past w xs j p h = rw (List·getD-eq-default xs 0 (le-div-iff-mul-le p .1 h), zero-div, zero-mod)
 
--- past the string too
-pub bitAt-past : (s : List ℕ) (j : ℕ) → 8 * length s ≤ j → bitAt s j ≡ 0
-unfolding bitAt
-bitAt-past s j h = let l : length s ≤ j / 8 = omega arith in rw (List·getD-eq-default s 0 l, zero-div, zero-mod)
-
 -- ---- high bit first is an order
 
 unfoldable pub highOrder : Order

@@ -140,7 +140,7 @@ checked-nexts known laws bytes n e =
     let h = checked-answers known laws bytes n e in
     accepted-nexts known laws bytes (h .opened) (h .pairs) (h .is-opened) (h .is-accepted)
 
--- edition 1
-pub checked-nexts-1 : (bytes : List ℕ) (n : ℕ) (e : check editions bytes ≡ done n) (last : ℕ) (ts : List ℕ)
+-- for a reader of all editions, as the calls are
+pub checked-nexts-all : (bytes : List ℕ) (n : ℕ) (e : check editions bytes ≡ done n) (last : ℕ) (ts : List ℕ)
     → inSequence (next editions bytes) last ts ≡ inSequence (listNext (checked-answers editions (lawful-reader editions) bytes n e .pairs)) last ts
-checked-nexts-1 = checked-nexts editions (lawful-reader editions)
+checked-nexts-all = checked-nexts editions (lawful-reader editions)

@@ -123,6 +123,20 @@ length-directory g at rs =
 abbrev pub runStart : ℕ → List (List ℤ) → ℕ → ℕ
 runStart g rs r = length (bytesOf (runBytes g) (take r rs))
 
+-- one run more
+pub start-more : (g : ℕ) (rs : List (List ℤ)) (r : ℕ) → r < length rs
+    → runStart g rs (suc r) ≡ runStart g rs r + length (runBytes g (getD rs r []))
+unfolding bytesOf
+start-more g [] r h = absurd (omega arith)
+start-more g (x ∷ xs) zero h = omega (arith, length-append (runBytes g x) [])
+start-more g (x ∷ xs) (suc r) h =
+    omega (
+      arith,
+      start-more g xs r (omega arith),
+      length-append (runBytes g x) (bytesOf (runBytes g) (take (suc r) xs)),
+      length-append (runBytes g x) (bytesOf (runBytes g) (take r xs)),
+    )
+
 pub start-le : (g : ℕ) (rs : List (List ℤ)) (r : ℕ) → runStart g rs r ≤ length (bytesOf (runBytes g) rs)
 start-le g rs r =
     omega (arith, ap length (split-bytes (runBytes g) r rs), length-append (bytesOf (runBytes g) (take r rs)) (bytesOf (runBytes g) (drop r rs)))

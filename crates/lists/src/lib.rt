@@ -15,20 +15,11 @@ pub struct Runs {
     pub high: Run,
 }
 
-// Values smallest + (x << shift): x is 0 for the first value, `most` for the second, and any number below it for the others. After so many they
-// come again, unless that is 0.
+// Values smallest + (x << shift): x is 0 for the first value, `most` for the second, and any number below it for the others.
 pub struct Values {
     pub smallest: u64,
     pub most: u64,
     pub shift: u64,
-    pub again: u64,
-}
-
-// Values of one kind to index 16383, of another to 32767, and of a third from there on: the runs of edition 3.
-pub struct Kinds {
-    pub first: Values,
-    pub second: Values,
-    pub third: Values,
 }
 
 // -2^63, the smallest value, and 2^63 - 1, the greatest. A value stands in two's complement, and beside it the value itself.
@@ -50,22 +41,11 @@ pub fn one(first: u64, gap: u64, count: u64) -> Runs {
     }
 }
 
-// Values of a width and a shift, from the smallest on.
-pub fn kind(smallest: u64, most: u64, shift: u64) -> Values {
+pub fn values_of(smallest: u64, most: u64, shift: u64) -> Values {
     Values {
         smallest,
         most,
         shift,
-        again: 0,
-    }
-}
-
-// Values of one kind.
-pub fn all(v: Values) -> Kinds {
-    Kinds {
-        first: v,
-        second: v,
-        third: v,
     }
 }
 
@@ -104,9 +84,7 @@ fn rest(x: u64, y: u64) -> u64 {
     if y == 0 { 0 } else { x % y }
 }
 
-// Value i of a kind.
 fn value_of(v: Values, i: u64) -> u64 {
-    let i = if v.again == 0 { i } else { i % v.again };
     let stored = match i {
         0 => 0,
         1 => v.most,
@@ -115,18 +93,10 @@ fn value_of(v: Values, i: u64) -> u64 {
     wrapping_add_u64(v.smallest, stored << (v.shift % 64))
 }
 
-fn value_at(k: Kinds, i: u64) -> u64 {
-    match i / 16384 {
-        0 => value_of(k.first, i),
-        1 => value_of(k.second, i % 16384),
-        _ => value_of(k.third, i % 16384),
-    }
-}
-
 // Fills the list with values.
-pub fn fill_values(values: &mut [u64], k: Kinds) {
+pub fn fill_values(values: &mut [u64], v: Values) {
     for i in 0..values.len() {
-        values[i] = value_at(k, i as u64);
+        values[i] = value_of(v, i as u64);
     }
 }
 

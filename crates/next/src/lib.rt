@@ -23,6 +23,7 @@ use lookup::Ask;
 use lookup::Room;
 use lookup::Step;
 use next_in_block::First;
+use scaled_values::Slotted;
 use values::Fetched;
 
 // The blocks that ids have.
@@ -160,7 +161,7 @@ fn steps_from(bytes: &[u8], column: Column, target: u32) -> Sum
     let section = &bytes[end..];
     let edition = head.edition;
     let fields = head.fields;
-    let slot = values::slot_of(section, edition, head.count, fields, ordinal);
+    let slot: Slotted = values::slot_of(section, edition, head.count, fields, ordinal);
     let stored = values::number_in(section, edition, slot);
     let Fetched::Value(value) = values::value_of(section, edition, fields, slot, stored) else {
         return no_more(2);

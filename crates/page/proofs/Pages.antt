@@ -5,13 +5,13 @@ use Rattle.format.specs.Refusals.{Outcome, done, refused, BUFFER}
 use Rattle.format.specs.Editions.{editions}
 use Rattle.format.specs.LookUp.{Look, lookUp}
 use Rattle.format.specs.Page.{placeKind, placeOrdinal, placeValue, page, pageWords, pageReply, pageAfter}
-use Rattle.answers.specs.Replies.{refusalNumber, replyOf}
+use Rattle.answers.specs.Replies.{refusalNumber}
 use Rattle.answers.specs.declared.Reply as Rp
 use Rattle.answers.specs.declared.Refusal as Re
 use Rattle.format.specs.Stores.{Fill}
 use Rattle.laws.proofs.Stores.{begun, part-more, filled}
 use Rattle.laws.proofs.Paged.{enough, stored}
-use Rattle.page.specs.Placed.{Holds, Stored, Room, Paged}
+use Rattle.page.specs.Placed.{Holds, Stored, Room, Paged, Leaves}
 use Rattle.page.specs.declared.Held.{Held}
 
 abbrev pub answers : List ℕ → List ℕ → List (Outcome Look)
@@ -106,12 +106,6 @@ stays k t =
     }
 
 -- ---- the reply and the lists
-
--- what the call promises of its reply and of each list
-abbrev pub Leaves : Outcome (List (Outcome Look)) → Rp.Reply → List ℕ → List ℕ → List ℤ → List ℤ → List ℕ → List ℕ → Type 0
-Leaves p r os os′ vs vs′ ks ks′ =
-    (replyOf r ≡ pageReply p)
-    × ((os′ ≡ pageAfter placeOrdinal p os) × ((vs′ ≡ pageAfter placeValue p vs) × (ks′ ≡ pageAfter placeKind p ks)))
 
 pub refused-so : (p : Outcome (List (Outcome Look))) (n : ℕ) (os : List ℕ) (vs : List ℤ) (ks : List ℕ) → p ≡ refused BUFFER n
     → Leaves p (Rp.Reply.Refused (Re.Refusal.Buffer n)) os os vs vs ks ks

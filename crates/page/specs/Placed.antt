@@ -2,7 +2,9 @@
 use Rattle.format.specs.Kit.{_≡_, List, ℕ, _≤_, _%_, _^_, ℤ, map, set, sets}
 use Rattle.format.specs.Refusals.{Outcome}
 use Rattle.format.specs.LookUp.{Look}
-use Rattle.format.specs.Page.{placeKind, placeOrdinal, placeValue, placeWords, pageWords}
+use Rattle.format.specs.Page.{placeKind, placeOrdinal, placeValue, placeWords, pageWords, pageReply, pageAfter}
+use Rattle.answers.specs.Replies.{replyOf}
+use Rattle.answers.specs.declared.Reply as Rp
 use Rattle.page.specs.declared.Held.{Held}
 
 -- what a place holds is that of an answer
@@ -30,3 +32,9 @@ pub record Paged (xs : List (Outcome Look)) (os os′ : List ℕ) (vs vs′ : Li
   pub in-values : vs′ ≡ sets vs 0 (map placeValue xs)
   pub in-kinds : ks′ ≡ sets ks 0 (map placeKind xs)
   pub words : w ≡ pageWords xs % 2 ^ 64
+
+-- the call's reply, and each list
+abbrev pub Leaves : Outcome (List (Outcome Look)) → Rp.Reply → List ℕ → List ℕ → List ℤ → List ℤ → List ℕ → List ℕ → Type 0
+Leaves p r os os′ vs vs′ ks ks′ =
+    (replyOf r ≡ pageReply p)
+    × ((os′ ≡ pageAfter placeOrdinal p os) × ((vs′ ≡ pageAfter placeValue p vs) × (ks′ ≡ pageAfter placeKind p ks)))

@@ -11,11 +11,11 @@ ghost use Rattle.format.specs.Refusals.{done, refused};
 ghost use Rattle.format.specs.Editions.{editions};
 ghost use Rattle.format.specs.Opening.{headOk, lengthOk, openColumn, valueOf};
 ghost use Rattle.format.specs.LookUp.{absent, lookUp};
-ghost use Rattle.format.specs.Page.{placeKind, placeOrdinal, placeValue, page, pageReply, pageAfter};
-ghost use Rattle.answers.specs.Replies.{replyOf, refusedAs};
+ghost use Rattle.format.specs.Page.{page};
+ghost use Rattle.answers.specs.Replies.{refusedAs};
 ghost use Rattle.column.specs.Opened.{columnOf};
 ghost use Rattle.page.specs.Marks.{withValue, BlockIs};
-ghost use Rattle.page.specs.Placed.{Holds, Stored, Room, Paged};
+ghost use Rattle.page.specs.Placed.{Holds, Stored, Room, Paged, Leaves};
 use answers::Refusal;
 use answers::Reply;
 use blocks::Block;
@@ -23,6 +23,7 @@ use column::Column;
 use column::Opening;
 use lookup::Step;
 use marks::Mark;
+use scaled_values::Slotted;
 use values::Fetched;
 
 mod marks;
@@ -69,7 +70,7 @@ fn valued(bytes: &[u8], column: Column, ordinal: u64, words: u64) -> Held
     let section = &bytes[end..];
     let edition = head.edition;
     let fields = head.fields;
-    let slot = values::slot_of(section, edition, head.count, fields, ordinal);
+    let slot: Slotted = values::slot_of(section, edition, head.count, fields, ordinal);
     let stored = values::number_in(section, edition, slot);
     let Fetched::Value(value) = values::value_of(section, edition, fields, slot, stored) else {
         return refused(15);
@@ -206,22 +207,11 @@ pub fn look_up_page(
     values: &mut [i64],
     kinds: &mut [u8],
 ) -> Reply
-    ensures replies { λ r.
-        ⌜ replyOf r
-        ≡ pageReply (page editions (now (bytes .entry)) (now (ids .entry)) (length (now (ordinals .entry))) (length (now (values .entry)))
-        (length (now (kinds .entry)))) ⌝ }
-    ensures in_ordinals { λ _.
-        ⌜ now (ordinals .exit)
-        ≡ pageAfter placeOrdinal (page editions (now (bytes .entry)) (now (ids .entry)) (length (now (ordinals .entry)))
-        (length (now (values .entry))) (length (now (kinds .entry)))) (now (ordinals .entry)) ⌝ }
-    ensures in_values { λ _.
-        ⌜ now (values .exit)
-        ≡ pageAfter placeValue (page editions (now (bytes .entry)) (now (ids .entry)) (length (now (ordinals .entry)))
-        (length (now (values .entry))) (length (now (kinds .entry)))) (now (values .entry)) ⌝ }
-    ensures in_kinds { λ _.
-        ⌜ now (kinds .exit)
-        ≡ pageAfter placeKind (page editions (now (bytes .entry)) (now (ids .entry)) (length (now (ordinals .entry)))
-        (length (now (values .entry))) (length (now (kinds .entry)))) (now (kinds .entry)) ⌝ }
+    ensures { λ r.
+        ⌜ Leaves
+        (page editions (now (bytes .entry)) (now (ids .entry)) (length (now (ordinals .entry))) (length (now (values .entry)))
+        (length (now (kinds .entry)))) r (now (ordinals .entry)) (now (ordinals .exit)) (now (values .entry)) (now (values .exit))
+        (now (kinds .entry)) (now (kinds .exit)) ⌝ }
 {
     let n = ids.len();
     if ordinals.len() < n {

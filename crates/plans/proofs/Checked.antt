@@ -11,7 +11,7 @@ use Rattle.laws.proofs.Ascending.{In, in-at, coded, each-all, table-ascends, ta
 use Rattle.laws.proofs.Plans.{shorter-by-table}
 use Rattle.tables.specs.Holds.{Stands, Holds}
 use Rattle.tables.specs.Marks.{marked}
-use Rattle.plans.specs.Saves.{saves}
+use Rattle.table_values.specs.Saves.{saves}
 
 -- ---- a value in the table
 

@@ -2,52 +2,23 @@
 ghost use mathlib.Core.Path.{_≡_};
 ghost use mathlib.Core.Bool.{true, false};
 ghost use mathlib.Core.List.{_++_, map};
-ghost use Prim.Native.Nat.{_+_, _*_, _≤_};
+ghost use Prim.Native.Nat.{_≤_};
 ghost use lib.ListN.{length, drop};
 ghost use Rattle.format.specs.Limits.{maxCount};
 ghost use Rattle.format.specs.Pairs.{Each, Fits};
-ghost use Rattle.format.specs.Table.{codeIn, ascends, allIn, valueShare};
+ghost use Rattle.format.specs.Table.{codeIn, ascends, allIn};
 ghost use Rattle.format.specs.Plan.{planOk, planned, plan};
 ghost use Rattle.format.specs.Writer.{writeReply, writeOut};
-ghost use Rattle.answers.specs.Replies.{fieldsOf, replyOf};
+ghost use Rattle.answers.specs.Replies.{replyOf};
 ghost use Rattle.tables.specs.Marks.{marked};
-ghost use Rattle.plans.specs.Saves.{saves};
-use answers::Fields;
 use answers::Refusal;
 use answers::Reply;
-use packings::Order;
 
 // The most entries of a table.
 pub const MOST: usize = 256;
 
 // The most values of a column.
 const VALUES: usize = 2147352576;
-
-// ---- whether a table saves bytes
-
-// The bytes of a column that its values decide.
-fn share(fields: Fields, v: u64) -> u64
-    requires { ⌜ v ≤ 2048 + 8 * maxCount ⌝ }
-    ensures { λ r. ⌜ r ≡ valueShare (fieldsOf fields) v ⌝ }
-{
-    let w = header_numbers::number_len(fields.width);
-    let s = header_numbers::number_len(fields.smallest);
-    let g = header_numbers::number_len(fields.divisor);
-    let l = header_numbers::number_len(v);
-    numbers::long(w + s + g + l) + v
-}
-
-// Whether the column of n values that are those of the table is shorter with the table than in edition 1.
-pub fn saves(table: &[i64], n: u64) -> bool
-    requires { ⌜ (1 ≤ length (now table)) × (length (now table) ≤ 256) × (n ≤ maxCount) ⌝ }
-    ensures { λ r. ⌜ (r ≡ saves (now (table .entry)) n) × Each Fits (now (table .entry)) ⌝ }
-{
-    let t = numbers::long(table.len());
-    let own = share(table_values::fields_of(t), table_values::bytes_of(t, n));
-    let plain = scaled_values::plan(Order::High, table);
-    let v = packing::packed_bytes(n, plain.width);
-    own < share(plain, v)
-}
 
 // ---- the small check
 
@@ -119,7 +90,7 @@ pub fn accepts(table: &[i64], values: &[i64]) -> bool
     if !same_members(table, values) {
         return false;
     }
-    saves(table, numbers::long(values.len()))
+    table_values::saves(table, numbers::long(values.len()))
 }
 
 // ---- the planner
@@ -154,7 +125,7 @@ pub fn plan(out: &mut [i64], values: &[i64]) -> usize
     if t > MOST {
         return 0;
     }
-    if !saves(&table[..t], numbers::long(values.len())) {
+    if !table_values::saves(&table[..t], numbers::long(values.len())) {
         return 0;
     }
     copy(out, &table[..t]);

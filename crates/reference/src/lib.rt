@@ -1,12 +1,10 @@
 // A second writer, from documents 01 and 02 alone and in another way than the library's: block number after block number, place after place
 // and bit after bit, every length what the same functions put on no bytes; and a second fetch. It shares no function with the library, and
-// promises nothing but to be safe.
+// promises nothing but to be safe. It knows editions 1 and 2; `rust/reference` knows all.
 mod bytes;
 pub mod fetching;
 mod header;
 mod ids;
-mod runs;
-mod table;
 mod values;
 
 use bytes::minus;
@@ -20,10 +18,6 @@ pub struct Outcome {
 }
 
 const LAST_ID: u64 = 2147352575;
-
-fn lesser(a: u64, b: u64) -> u64 {
-    if a < b { a } else { b }
-}
 
 fn refused(number: u64, with: u64) -> Outcome {
     Outcome { number, with }
@@ -70,7 +64,7 @@ fn judged(ids: &[u32], values: &[u64], edition: u64, power: u64) -> Outcome {
     if ids.len() != values.len() {
         return refused(1, 0);
     }
-    if edition < 1 || edition > 4 {
+    if edition < 1 || edition > 2 {
         return refused(9, 0);
     }
     match power {
@@ -80,56 +74,9 @@ fn judged(ids: &[u32], values: &[u64], edition: u64, power: u64) -> Outcome {
     }
 }
 
-// Puts the section, and answers with its bytes.
-fn put_value_section(
-    out: &mut [u8],
-    base: u64,
-    values: &[u64],
-    table: &[u64],
-    edition: u64,
-) -> u64 {
-    let n = values.len() as u64;
-    let f = values::facts_of(values, edition, 0, n, 0);
-    match edition {
-        3 => runs::put_section(out, base, values, f.divisor),
-        4 => table::put_section(out, base, values, table),
-        _ => values::put_values(out, base, values, table, f, n),
-    }
-}
-
-// What the header says of the values.
-struct Told {
-    width: u64,
-    smallest: u64,
-    divisor: u64,
-}
-
-// Editions 1 and 2 tell smallest value, divisor and width of all values; edition 3 the divisor; edition 4 the width of the codes, and as divisor
-// the table's count.
-fn told_of(values: &[u64], table: &[u64], edition: u64) -> Told {
-    let f = values::facts_of(values, edition, 0, values.len() as u64, 0);
-    match edition {
-        3 => Told {
-            width: 0,
-            smallest: 0,
-            divisor: f.divisor,
-        },
-        4 => Told {
-            width: table::width(table),
-            smallest: 0,
-            divisor: table.len() as u64,
-        },
-        _ => Told {
-            width: f.width,
-            smallest: values::folded(f.smallest),
-            divisor: f.divisor,
-        },
-    }
-}
-
 // The bytes of the sections are what is put nowhere.
-fn fields_of(ids: &[u32], values: &[u64], table: &[u64], edition: u64, power: u64) -> Fields {
-    let t = told_of(values, table, edition);
+fn fields_of(ids: &[u32], values: &[u64], edition: u64, power: u64) -> Fields {
+    let f = values::facts_of(values, edition);
     let jumps = ids::entries(ids::blocks(ids));
     Fields {
         edition,
@@ -137,10 +84,10 @@ fn fields_of(ids: &[u32], values: &[u64], table: &[u64], edition: u64, power: u6
         power,
         id_bytes: plus(ids::section_bytes(ids, power), jumps << 3),
         jumps,
-        width: t.width,
-        smallest: t.smallest,
-        divisor: t.divisor,
-        value_bytes: put_value_section(&mut [0u8; 0], 0, values, table, edition),
+        width: f.width,
+        smallest: values::folded(f.smallest),
+        divisor: f.divisor,
+        value_bytes: values::put_values(&mut [0u8; 0], 0, values, f),
     }
 }
 
@@ -149,7 +96,7 @@ fn bytes_of(f: Fields) -> u64 {
     plus(plus(header, f.id_bytes), f.value_bytes)
 }
 
-fn put_column(out: &mut [u8], ids: &[u32], values: &[u64], table: &[u64], f: Fields) {
+fn put_column(out: &mut [u8], ids: &[u32], values: &[u64], f: Fields) {
     let base = header::put_header(out, f);
     let end = plus(base, f.id_bytes);
     let s = ids::Section {
@@ -159,63 +106,20 @@ fn put_column(out: &mut [u8], ids: &[u32], values: &[u64], table: &[u64], f: Fie
         power: f.power,
     };
     ids::put_section(out, s, ids);
-    put_value_section(out, end, values, table, f.edition);
+    values::put_values(out, end, values, values::facts_of(values, f.edition));
 }
 
-// The small check of a table (document 02, [12]): of two whole columns, that with the table is the shorter.
-fn accepted(ids: &[u32], values: &[u64], table: &[u64], f: Fields) -> bool {
-    if !table::fits(table, values) {
-        return false;
-    }
-    bytes_of(f) < bytes_of(fields_of(ids, values, table, 1, f.power))
-}
-
-// Writes the column to the front of out; in edition 4 by a table, and a rejected one is refused with 17. No start needs a test: 32766 blocks of at
-// most 9220 bytes end far below 2147483647 (document 02, [7]).
-pub fn write_by(
-    ids: &[u32],
-    values: &[u64],
-    table: &[u64],
-    edition: u64,
-    power: u64,
-    out: &mut [u8],
-) -> Outcome {
+// Writes the column to the front of out. No start needs a test: 32766 blocks of at most 9220 bytes end far below 2147483647 (document 02, [7]).
+pub fn write(ids: &[u32], values: &[u64], edition: u64, power: u64, out: &mut [u8]) -> Outcome {
     let why = judged(ids, values, edition, power);
     if why.number != 0 {
         return why;
     }
-    let f = fields_of(ids, values, table, edition, power);
-    if edition == 4 {
-        if !accepted(ids, values, table, f) {
-            return refused(17, 0);
-        }
-    }
+    let f = fields_of(ids, values, edition, power);
     let needed = bytes_of(f);
     if (out.len() as u64) < needed {
         return refused(6, needed);
     }
-    put_column(out, ids, values, table, f);
+    put_column(out, ids, values, f);
     refused(0, needed)
-}
-
-// The same by a table, or in edition 1, if it is rejected.
-fn write_tabled(ids: &[u32], values: &[u64], table: &[u64], power: u64, out: &mut [u8]) -> Outcome {
-    let r = write_by(ids, values, table, 4, power, out);
-    if r.number != 17 {
-        return r;
-    }
-    write_by(ids, values, table, 1, power, out)
-}
-
-// The same in any edition; in edition 4 by the table of the distinct values, which is rejected if they are too many.
-pub fn write(ids: &[u32], values: &[u64], edition: u64, power: u64, out: &mut [u8]) -> Outcome {
-    let mut all = [0u64; 256];
-    if edition != 4 {
-        return write_by(ids, values, &all, edition, power, out);
-    }
-    let t = table::fill(&mut all, values) as usize;
-    if t > 256 {
-        return write_tabled(ids, values, &all, power, out);
-    }
-    write_tabled(ids, values, &all[0..t], power, out)
 }

@@ -1,24 +1,20 @@
-// Values packed (document 01, "Value section"; document 02, [2] and [6]): all of them, or a run (document 02, [11]), or the codes of all (document
-// 02, [12]). A value v stands here as v + 2^63.
+// Values packed (document 01, "Value section"; document 02, [2] and [6]). A value v stands here as v + 2^63.
 use super::bytes;
 use super::bytes::ZERO;
 use super::bytes::minus;
 use super::bytes::plus;
-use super::table;
 
 // What values have in common: the smallest, the greatest, and the greatest common divisor of each one's difference to the first.
-pub struct Span {
-    pub smallest: u64,
+struct Span {
+    smallest: u64,
     greatest: u64,
     divisor: u64,
 }
 
-// What values are packed by, and the index of the first of them.
+// What values are packed by.
 pub struct Facts {
-    pub edition: u64,
-    pub first: u64,
+    edition: u64,
     pub smallest: u64,
-    pub greatest: u64,
     pub divisor: u64,
     pub width: u64,
 }
@@ -65,22 +61,21 @@ fn with_value(s: Span, first: u64, v: u64) -> Span {
     }
 }
 
-// Of the values from an index to before an end.
-pub fn span_of(values: &[u64], from: u64, end: u64) -> Span {
-    let first = bytes::value(values, from);
+fn span_of(values: &[u64]) -> Span {
+    let first = bytes::value(values, 0);
     let mut s = Span {
         smallest: first,
         greatest: first,
         divisor: 0,
     };
-    for i in from..end {
+    for i in 0..values.len() as u64 {
         s = with_value(s, first, bytes::value(values, i));
     }
     s
 }
 
 // The least width w with x < 2^w.
-pub fn width_of(x: u64) -> u64 {
+fn width_of(x: u64) -> u64 {
     minus(64, bytes::long(u64::leading_zeros(x)))
 }
 
@@ -100,29 +95,22 @@ fn or(a: u64, b: u64) -> u64 {
     if a == 0 { b } else { a }
 }
 
-// Of the values from an index to before an end, by a divisor; by their own if that is 0, which is 1 if they are equal (or there is none, which
-// reads as 0).
-pub fn facts_of(values: &[u64], edition: u64, first: u64, end: u64, divisor: u64) -> Facts {
-    let s = span_of(values, first, end);
-    let divisor = or(divisor, or(s.divisor, 1));
+// The divisor is 1 if the values are equal, or there is none (which reads as 0).
+pub fn facts_of(values: &[u64], edition: u64) -> Facts {
+    let s = span_of(values);
+    let divisor = or(s.divisor, 1);
     let width = width_of(quotient(minus(s.greatest, s.smallest), divisor));
     Facts {
         edition,
-        first,
         smallest: s.smallest,
-        greatest: s.greatest,
         divisor,
         width: listed(edition, width),
     }
 }
 
-// The number stored of value i; in edition 4 its place in the table.
-fn stored(values: &[u64], table: &[u64], f: Facts, i: u64) -> u64 {
-    let value = bytes::value(values, plus(f.first, i));
-    if f.edition == 4 {
-        return table::place(table, value);
-    }
-    quotient(minus(value, f.smallest), f.divisor)
+// The number stored of value i.
+fn stored(values: &[u64], f: Facts, i: u64) -> u64 {
+    quotient(minus(bytes::value(values, i), f.smallest), f.divisor)
 }
 
 // Bit k of so many, the first being the highest, or in edition 2 the lowest: how many are below it.
@@ -135,8 +123,8 @@ fn below(edition: u64, bits: u64, k: u64) -> u64 {
 }
 
 // Bit j of the packed numbers, in byte j div 8: a bit of number j div w. The bits of a number and those of a byte come in the same order.
-fn put_value_bit(out: &mut [u8], base: u64, values: &[u64], table: &[u64], f: Facts, j: u64) {
-    let number = stored(values, table, f, quotient(j, f.width));
+fn put_value_bit(out: &mut [u8], base: u64, values: &[u64], f: Facts, j: u64) {
+    let number = stored(values, f, quotient(j, f.width));
     let one = bytes::bit(number, below(f.edition, f.width, rest(j, f.width)));
     bytes::put_bit(
         out,
@@ -147,18 +135,11 @@ fn put_value_bit(out: &mut [u8], base: u64, values: &[u64], table: &[u64], f: Fa
     );
 }
 
-// Puts so many packed numbers, and answers with their bytes.
-pub fn put_values(
-    out: &mut [u8],
-    base: u64,
-    values: &[u64],
-    table: &[u64],
-    f: Facts,
-    count: u64,
-) -> u64 {
-    let bits = bytes::times(count, f.width);
+// Puts the packed numbers, and answers with their bytes.
+pub fn put_values(out: &mut [u8], base: u64, values: &[u64], f: Facts) -> u64 {
+    let bits = bytes::times(values.len() as u64, f.width);
     for j in 0..bits {
-        put_value_bit(out, base, values, table, f, j);
+        put_value_bit(out, base, values, f, j);
     }
     plus(bits, 7) / 8
 }

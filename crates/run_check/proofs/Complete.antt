@@ -12,12 +12,11 @@ use Rattle.laws.proofs.Digits.{below-take, below-drop}
 use Rattle.laws.proofs.Bits.{byte-at, unpacked-packed}
 use Rattle.laws.proofs.Values.{values-back, length-stored-with, stored-below}
 use Rattle.laws.proofs.Pieces.{split-bytes}
-use Rattle.laws.proofs.ValueRuns.{runStart, RunAt, length-run, run-narrow}
+use Rattle.laws.proofs.ValueRuns.{runStart, RunAt, length-run, run-narrow, start-more}
 use Rattle.laws.proofs.Fits.{smallest-fits, greatest-fits}
 use Rattle.run_check.specs.RunsOk.{partAt, numbersAt, runOk, divisorOk, runsOk}
 use Rattle.run_check.proofs.Divisor.{apartIn, commonIn}
 use Rattle.run_check.proofs.OneRun.{RunIs, run-complete}
-use Rattle.run_values.proofs.Laid.{start-more}
 
 module _ (g : ℕ) (p : 0 < g) (s rest : List ℕ) (n : ℕ) (ur : Below 256 rest) (rs : List (List ℤ)) (many : length rs ≡ runCount n)
     (there : (r : ℕ) → r < length rs → RunAt g s rest rs r) (end : length (bytesOf (runBytes g) rs) ≡ length rest)

@@ -1,3 +1,2 @@
--- Edition 3's header rules as facts, and laws that the functions' proofs cite.
+-- Edition 3's header rules as facts, and step 7 in a run.
 pub mod Reached
-pub mod Laid

@@ -1,5 +1,5 @@
 // The values of edition 3 (document 02, [11]): runs of 16384 values, each with a summary in the directory that opens the section. Here they
-// are read; writing.rt writes them.
+// are read; `run_writer` writes them.
 ghost use mathlib.Core.Path.{_≡_};
 ghost use mathlib.Core.Bool.{cond};
 ghost use Prim.Native.Nat.{ℕ, _+_, _-_, _*_, _/_, _%_, _^_, _≤_, _<_, min};
@@ -13,12 +13,6 @@ ghost use Rattle.run_values.specs.Summaries.{summaryIs, SlotIs, reachesI
 use answers::Fields;
 use scaled_values::Slot;
 use scaled_values::Slotted;
-
-mod writing;
-
-pub use writing::length;
-pub use writing::plan;
-pub use writing::put;
 
 // The values of a run.
 pub const RUN: u64 = 16384;

@@ -8,12 +8,14 @@ use boundary::CColumn;
 use boundary::layers;
 use boundary::layers::CLayered;
 use boundary::layers::CPart;
+use layered::Layered;
+use layered::Part;
 
 #[no_mangle]
 pub extern "C" fn signalfern_look_up_layered(machine: &[u8], correction: &[u8], id: u32) -> CLayered
     ensures { λ r. ⌜ r ≡ layeredC (lookUpLayered editions (now (machine .entry)) (now (correction .entry)) id) ⌝ }
 {
-    let answer = signalfern::look_up_layered(machine, correction, id);
+    let answer: Layered = signalfern::look_up_layered(machine, correction, id);
     layers::layered_c(answer)
 }
 
@@ -31,7 +33,7 @@ pub extern "C" fn signalfern_look_up_layered_in(
 {
     let below = boundary::column_in(machine_column);
     let above = boundary::column_in(correction_column);
-    let answer = signalfern::look_up_layered_in(below, machine, above, correction, id);
+    let answer: Layered = signalfern::look_up_layered_in(below, machine, above, correction, id);
     layers::layered_c(answer)
 }
 
@@ -39,6 +41,6 @@ pub extern "C" fn signalfern_look_up_layered_in(
 pub extern "C" fn signalfern_layered_values(machine: &[u8], correction: &[u8], id: u32) -> CPart
     ensures { λ r. ⌜ r ≡ partC (layeredPart editions (now (machine .entry)) (now (correction .entry)) id) ⌝ }
 {
-    let part = signalfern::layered_part(machine, correction, id);
+    let part: Part = signalfern::layered_part(machine, correction, id);
     layers::part_c(part)
 }

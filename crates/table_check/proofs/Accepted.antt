@@ -24,7 +24,7 @@ use Rattle.packings.specs.Packings.{spareOk}
 use Rattle.packings.proofs.Spare.{spare-sound, spare-complete}
 use Rattle.table_values.proofs.Facts.{rules-are}
 use Rattle.tables.proofs.Marks.{OneOf, codes-used, used-codes}
-use Rattle.plans.specs.Saves.{saves}
+use Rattle.table_values.specs.Saves.{saves}
 use Rattle.table_check.specs.ValuesOk.{entriesFrom, belowAll, usedAll, codesOk, valuesOk}
 use Rattle.table_check.proofs.Codes as Codes
 use Rattle.table_check.proofs.Codes.{below-each, used-each, each-used, each-below}

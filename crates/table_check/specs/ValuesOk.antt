@@ -7,7 +7,7 @@ use Rattle.format.specs.Codec.{Fields}
 use Rattle.format.specs.Table.{ascends}
 use Rattle.packings.specs.declared.Order as Od
 use Rattle.packings.specs.Packings.{spareOk}
-use Rattle.plans.specs.Saves.{saves}
+use Rattle.table_values.specs.Saves.{saves}
 
 -- k entries of the table that a section begins with, i and on
 unfoldable pub entriesFrom : ℕ → ℕ → List ℕ → List ℤ

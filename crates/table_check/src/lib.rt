@@ -77,7 +77,7 @@ pub fn values_ok(section: &[u8], n: u64, fields: Fields) -> bool
     if !tables::ascending(&table[..t]) {
         return false;
     }
-    if !plans::saves(&table[..t], n) {
+    if !table_values::saves(&table[..t], n) {
         return false;
     }
     let w = numbers::size(fields.width);

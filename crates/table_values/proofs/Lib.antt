@@ -1,3 +1,2 @@
--- What the header rules of edition 4 say; each value of those that are all there; an entry, and the codes, written.
+-- What the header rules of edition 4 say; each value of those that are all there.
 pub mod Facts
-pub mod Written

@@ -1,2 +1,3 @@
--- Where a code stands.
+-- Where a code stands; whether a table saves bytes, told from the table and n alone.
 pub mod Codes
+pub mod Saves

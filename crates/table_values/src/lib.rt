@@ -1,5 +1,5 @@
 // The values of edition 4 (document 02, [12]): a table of the distinct values, ascending, and a code for each value, its place in the table.
-// Here they are read; writing.rt writes them.
+// Here they are read; `table_writer` writes them.
 ghost use mathlib.Core.Path.{_≡_};
 ghost use mathlib.Core.Bool.{true};
 ghost use mathlib.Core.List.{List, _++_};
@@ -10,20 +10,18 @@ ghost use lib.ListN.{length, drop};
 ghost use Rattle.format.specs.Limits.{maxCount};
 ghost use Rattle.format.specs.Bytes.{lowAt, untwos};
 ghost use Rattle.format.specs.Bits.{packedBytes};
-ghost use Rattle.format.specs.Table.{codeWidth, tableFields, tableBytes};
+ghost use Rattle.format.specs.Pairs.{Each, Fits};
+ghost use Rattle.format.specs.Table.{codeWidth, tableFields, tableBytes, valueShare};
 ghost use Rattle.format.specs.Editions.{table, codec};
 ghost use Rattle.format.specs.Check.{allValues};
 ghost use Rattle.answers.specs.Replies.{fieldsOf, fetchedOf};
 ghost use Rattle.table_values.specs.Codes.{codeSlot, codeValue};
+ghost use Rattle.table_values.specs.Saves.{saves};
 use answers::Fetched;
 use answers::Fields;
 use packings::Order;
 use scaled_values::Slot;
 use scaled_values::Slotted;
-
-mod writing;
-
-pub use writing::put;
 
 // The least width for the last code of t entries.
 pub fn code_width(t: u64) -> u64
@@ -127,4 +125,30 @@ pub fn fill(values: &mut [i64], section: &[u8], n: usize, fields: Fields)
         skip = next & 7;
         i += 1;
     }
+}
+
+// ---- whether a table saves bytes
+
+// The bytes of a column that its values decide.
+fn share(fields: Fields, v: u64) -> u64
+    requires { ⌜ v ≤ 2048 + 8 * maxCount ⌝ }
+    ensures { λ r. ⌜ r ≡ valueShare (fieldsOf fields) v ⌝ }
+{
+    let w = header_numbers::number_len(fields.width);
+    let s = header_numbers::number_len(fields.smallest);
+    let g = header_numbers::number_len(fields.divisor);
+    let l = header_numbers::number_len(v);
+    numbers::long(w + s + g + l) + v
+}
+
+// Whether the column of n values that are those of the table is shorter with the table than in edition 1.
+pub fn saves(table: &[i64], n: u64) -> bool
+    requires { ⌜ (1 ≤ length (now table)) × (length (now table) ≤ 256) × (n ≤ maxCount) ⌝ }
+    ensures { λ r. ⌜ (r ≡ saves (now (table .entry)) n) × Each Fits (now (table .entry)) ⌝ }
+{
+    let t = numbers::long(table.len());
+    let own = share(fields_of(t), bytes_of(t, n));
+    let plain = scaled_values::plan(Order::High, table);
+    let v = packing::packed_bytes(n, plain.width);
+    own < share(plain, v)
 }

@@ -93,7 +93,7 @@ pub fn plan(edition: Edition, values: &[i64], table: &[i64]) -> Fields
     match edition {
         Edition::Plain => scaled_values::plan(Order::High, values),
         Edition::Lucene => scaled_values::plan(Order::Low, values),
-        Edition::Runs => run_values::plan(values),
+        Edition::Runs => run_writer::plan(values),
         Edition::Table => table_values::fields_of(table.len() as u64),
     }
 }
@@ -107,7 +107,7 @@ pub fn length(edition: Edition, values: &[i64], fields: Fields) -> u64
     match edition {
         Edition::Plain => scaled_values::length(Order::High, values, fields),
         Edition::Lucene => scaled_values::length(Order::Low, values, fields),
-        Edition::Runs => run_values::length(values, fields),
+        Edition::Runs => run_writer::length(values, fields),
         Edition::Table => table_values::bytes_of(fields.divisor, values.len() as u64),
     }
 }
@@ -122,8 +122,8 @@ pub fn put(out: &mut [u8], edition: Edition, values: &[i64], fields: Fields, tab
     match edition {
         Edition::Plain => scaled_values::put(out, Order::High, values, fields),
         Edition::Lucene => scaled_values::put(out, Order::Low, values, fields),
-        Edition::Runs => run_values::put(out, values, fields),
-        Edition::Table => table_values::put(out, table, values),
+        Edition::Runs => run_writer::put(out, values, fields),
+        Edition::Table => table_writer::put(out, table, values),
     }
 }
 

@@ -14,6 +14,7 @@ mod options;
 mod page;
 mod plot;
 mod runs;
+mod sets;
 mod tables;
 
 use std::process::ExitCode;
@@ -54,6 +55,7 @@ fn run(options: &Options) -> Result<(), String> {
         Rows::Editions => editions::table(effort),
         Rows::Runs => runs::table(effort),
         Rows::Tables => tables::table(effort),
+        Rows::Sets => sets::table(effort),
     };
     table.print(options.before.as_ref());
     let mut times = Times::default();

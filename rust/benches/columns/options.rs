@@ -53,6 +53,8 @@ pub enum Rows {
     Runs,
     /// Edition 4 beside edition 1, and the planner beside the reference's.
     Tables,
+    /// Sets on disk: each call, and the bytes of an id.
+    Sets,
 }
 
 /// What stood on the command line.
@@ -92,6 +94,7 @@ impl Options {
                 "--editions" => options.rows = Rows::Editions,
                 "--runs" => options.rows = Rows::Runs,
                 "--tables" => options.rows = Rows::Tables,
+                "--sets" => options.rows = Rows::Sets,
                 "--plot" => options.plot = Some(value()?.into()),
                 "--save" => options.save = Some(value()?.into()),
                 "--beside" => options.before = Some(Times::read(value()?.as_ref())?),
@@ -103,7 +106,7 @@ impl Options {
 }
 
 const USAGE: &str = "cargo bench --bench columns -- [--widths | --divisors | --counts | --next | \
---layered | --pages | --editions | --runs | --tables | --plot FILE.svg] [--save FILE] [--beside FILE]
+--layered | --pages | --editions | --runs | --tables | --sets | --plot FILE.svg] [--save FILE] [--beside FILE]
   --widths       the calls at each width of stored numbers in place of each kind of block
   --divisors     the calls on values with large and small divisors
   --counts       look-ups alone, in blocks of few ids to many
@@ -113,5 +116,6 @@ const USAGE: &str = "cargo bench --bench columns -- [--widths | --divisors | --c
   --editions     the calls on columns of edition 2, beside edition 1's of the same pairs, at each width
   --runs         bytes a pair and the calls of edition 3, beside edition 1; the search for a value, beside a scan
   --tables       bytes a pair and the calls of edition 4, beside edition 1; the planner, beside the reference's
+  --sets         bytes an id of sets on disk, beside the id section; writing, check and membership
   --plot FILE    how look-up, check and reading grow with the pairs and with the bytes, drawn
   --save FILE    keep the times; --beside FILE sets such times, of another revision, beside these";

@@ -1,6 +1,6 @@
 //! What the integration tests share: a generator, lists of pairs, columns taken apart, and each call
 //! beside the reference.
-#![allow(dead_code, reason = "no test uses all of it")]
+#![allow(dead_code, reason = "neither program uses all of it")]
 
 pub mod damage;
 pub mod layers;

@@ -6,10 +6,13 @@ use Rattle.block_writer.proofs.put_head.Tie as tie
 
 returns : tie.Need-returns
 returns c =
-    let n = c .before .before .before .before .before .before .before .before .before in
-    let w = c .before .before .before .before .before .before .before in
+    let t = c .before .before in
+    let b = t .before .before .before .before in
+    let w = b .before in
+    let n = w .before .before in
     let a = n .before .before .before .before .args in
-    cc (head-is (a .part .now) (a .out .now) (a .at) (w .long .result) (length (a .part .now) - 1) (w .long .ensures ∙ n .number-of .ensures .0) refl)
+    rw (t .put-short2 .ensures, b .put-short .ensures)
+    (head-is (a .part .now) (a .out .now) (a .at) (w .long .result) (length (a .part .now) - 1) (w .long .ensures ∙ n .number-of .ensures .0) refl)
 
 pub put-head-spec : {M : Type 1} → statement M
 put-head-spec =

@@ -26,7 +26,7 @@ loop-again c =
       o .kept .0 ∙ l .loop .inv .1,
       sym
           (sym (l .loop .inv .2) ∙ short-more (a .part .now) (l .loop .out) (a .at + 2 * l .loop .i) j (l .loop .i) (omega arith) (omega arith)
-          ∙ ap (λ (xs : List ℕ). sets xs j (bytesOf (low 2) (placesFrom (a .part .now) (l .loop .i + 1)))) (cc (o .ensures, x))),
+          ∙ ap (λ (xs : List ℕ). sets xs j (bytesOf (low 2) (placesFrom (a .part .now) (l .loop .i + 1)))) (rw (← x) (sym (o .ensures)))),
     )
 
 returns : tie.Need-returns Inv-loop μ-loop

@@ -1,5 +1,5 @@
 -- `header_numbers::quick_more` meets its contract: byte after byte, what is read so far and the bytes from there on make the number. Assumes nothing.
-use Rattle.format.specs.Kit.{_≡_, refl, _∙_, ℕ, _+_, _-_, _*_, arith, drop, needs}
+use Rattle.format.specs.Kit.{_≡_, refl, _∙_, ℕ, _+_, _-_, _*_, arith, drop}
 use Rattle.format.specs.HeaderNumbers.{readGroups, readNumber}
 use Rattle.header_numbers.specs.Read.{numberOf, numberOn}
 use Rattle.header_numbers.proofs.Fast.{quick-none, quick-is}
@@ -102,19 +102,19 @@ returns-9 c =
 pub quick-more-spec : {M : Type 1} → statement M
 quick-more-spec =
     tie.close (tie.spec
-    (λ c. search needs) (λ c κs. search needs) (λ c. search needs) (λ c. search needs)
+    (λ c. omega arith) (λ c κs. omega arith) (λ c. omega arith) (λ c. omega arith)
     returns
-    (λ c. search needs) (λ c. search needs) (λ c κs. search needs) (λ c. quick-none refl) (λ c. search needs) (λ c. search needs)
-    (λ c. search needs) (λ c. search needs)
+    (λ c. omega arith) (λ c. omega arith) (λ c κs. omega arith) (λ c. quick-none refl) (λ c. omega arith) (λ c. omega arith)
+    (λ c. omega arith) (λ c. omega arith)
     returns-3
-    (λ c. search needs) (λ c. search needs) (λ c κs. search needs) (λ c. quick-none refl) (λ c. search needs) (λ c. search needs)
-    (λ c. search needs) (λ c. search needs) (λ c. search needs) (λ c. search needs)
+    (λ c. omega arith) (λ c. omega arith) (λ c κs. omega arith) (λ c. quick-none refl) (λ c. omega arith) (λ c. omega arith)
+    (λ c. omega arith) (λ c. omega arith) (λ c. omega arith) (λ c. omega arith)
     returns-5
-    (λ c. search needs) (λ c. search needs) (λ c κs. search needs) (λ c. quick-none refl) (λ c. search needs) (λ c. search needs)
-    (λ c. search needs) (λ c. search needs) (λ c. search needs) (λ c. search needs) (λ c. search needs) (λ c. search needs)
+    (λ c. omega arith) (λ c. omega arith) (λ c κs. omega arith) (λ c. quick-none refl) (λ c. omega arith) (λ c. omega arith)
+    (λ c. omega arith) (λ c. omega arith) (λ c. omega arith) (λ c. omega arith) (λ c. omega arith) (λ c. omega arith)
     returns-7
-    (λ c. search needs) (λ c. search needs) (λ c κs. search needs) (λ c. quick-none refl) (λ c. search needs) (λ c. search needs)
-    (λ c. search needs) (λ c. search needs) (λ c. search needs) (λ c. search needs) (λ c. search needs) (λ c. search needs)
-    (λ c. search needs) (λ c. search needs)
+    (λ c. omega arith) (λ c. omega arith) (λ c κs. omega arith) (λ c. quick-none refl) (λ c. omega arith) (λ c. omega arith)
+    (λ c. omega arith) (λ c. omega arith) (λ c. omega arith) (λ c. omega arith) (λ c. omega arith) (λ c. omega arith)
+    (λ c. omega arith) (λ c. omega arith)
     returns-9
     (λ c. quick-none refl))

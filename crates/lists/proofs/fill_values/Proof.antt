@@ -7,10 +7,10 @@ use Rattle.lists.proofs.fill_values.Statement.{statement}
 use Rattle.lists.proofs.fill_values.Tie as tie
 
 abbrev Inv-loop : tie.InvT-loop
-Inv-loop values₀ k i₀ i-end values i = length values ≡ length values₀
+Inv-loop values₀ v i₀ i-end values i = length values ≡ length values₀
 
 abbrev μ-loop : tie.MeasureT-loop
-μ-loop values₀ k i₀ i-end values i = i-end - i
+μ-loop values₀ v i₀ i-end values i = i-end - i
 
 pub fill-values-spec : {M : Type 1} → statement M
 fill-values-spec =

@@ -2,7 +2,7 @@
 use Rattle.format.specs.Kit.{_≡_, sym, ap, _∙_, true, false, List, [], _∷_, ℕ, arith, ℤ, length, not-true, not-false, needs}
 use Rattle.format.specs.Pairs.{Each, Fits}
 use Rattle.laws.proofs.Cases.{false-true}
-use Rattle.plans.specs.Saves.{saves}
+use Rattle.table_values.specs.Saves.{saves}
 use Rattle.plans.proofs.Checked.{plain-taken, few-entries, many-entries, not-ascending, other-members, all-asked}
 use Rattle.plans.proofs.accepts.Statement.{statement}
 use Rattle.plans.proofs.accepts.Tie as tie

@@ -1,6 +1,7 @@
 -- `plans::mark_by` meets its contract. The loop's invariant: the values from i on are still to be looked for and marked. Assumes nothing.
 use Rattle.format.specs.Kit.{_≡_, refl, sym, ap, _∙_, subst, true, ℕ, _-_, _^_, _<_, arith, ℤ, pos, mag, length, getD, not-true, not-false, needs}
 use Rattle.format.specs.Table.{codeIn}
+use Rattle.laws.proofs.Cases.{false-true}
 use Rattle.signed.specs.Sign.{biased, unbiased}
 use Rattle.signed.proofs.Signs.{read-back, unbiased-biased}
 use Rattle.tables.specs.Holds.{Stands}
@@ -46,7 +47,7 @@ returns c =
     let no-place : Stands us (codeIn us v) v → ⊥ =
     λ x. has .ensures .1 (not-true (has .result) (c .if1 .taken)) (subst (λ (k : ℕ). Stands us k v) (sym (p .place-of .ensures .0)) x) in (
       marking-stop (l .loop .inv .0) v (b .before .before .loop-test .taken) (value b) (s .pre .0) no-place,
-      λ e. absurd (let z : _≡_ {A = ℕ} 0 1 = cc in omega arith),
+      λ e. false-true e,
     )
 
 -- the value stands at its place

@@ -54,7 +54,7 @@ turn c =
     let h = b .before .before .loop-test .taken in
     let e : c .before .over .result ≡ over (smallest vs) (getD vs (l .loop .i) (pos 0)) =
     c .before .over .ensures ∙ over-at vs (s .pre .1) (l .loop .i) h (b .biased .result) (s .args .low) (value b) (s .pre .0) in
-    cc (next (l .loop .g) (l .loop .i) vs h)
+    rw (c .common .ensures, e) (sym (next (l .loop .g) (l .loop .i) vs h) ∙ l .loop .inv .1)
 
 returns : tie.Need-returns Inv-loop μ-loop
 returns c =

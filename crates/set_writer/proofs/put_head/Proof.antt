@@ -39,7 +39,7 @@ returns c =
     let long = r .before .long .ensures in
     let h = head-put (s .args .h) (s .args .out .now) (s .args .at) (p .put-number .result) (q .put-number2 .result) (p .put-number .ensures .0)
     (q .put-number2 .ensures .0) in (
-      cc (h, p .put-number .ensures .1, q .put-number2 .ensures .1, r .put-number3 .ensures .1, long),
+      rw (r .put-number3 .ensures .1, q .put-number2 .ensures .1, p .put-number .ensures .1, long) h,
       omega (
         arith,
         head-long (s .args .h),

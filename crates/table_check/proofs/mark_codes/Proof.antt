@@ -2,6 +2,7 @@
 -- place that is kept. Assumes nothing.
 use Rattle.format.specs.Kit.{_≡_, sym, _∙_, ℕ, _+_, _-_, _*_, _%_, _<_, _≤_, arith, bitAnd, and-mask, length, getD, needs}
 use Rattle.format.specs.Bits.{unpacked}
+use Rattle.laws.proofs.Cases.{false-true}
 use Rattle.laws.proofs.Bits.{length-unpacked, fetched-is, within}
 use Rattle.packing.proofs.Join.{place-next}
 use Rattle.table_values.proofs.Facts.{high-width, high-fetch}
@@ -34,7 +35,7 @@ returns c =
     let k = c .before in
     let l = k .before .before in (
       counting-stop (l .loop .inv .0) (k .next-of .result) (more (k .before)) (code k) (c .if1 .taken),
-      λ e. absurd (let z : _≡_ {A = ℕ} 0 1 = cc in omega arith),
+      λ e. false-true e,
     )
 
 add-at : tie.Need-add-at Inv-loop μ-loop

@@ -5,7 +5,7 @@ use Rattle.format.specs.Bits.{packedBytes}
 use Rattle.format.specs.Table.{ascends}
 use Rattle.answers.specs.Replies.{fieldsOf}
 use Rattle.laws.proofs.Table.{TableRules}
-use Rattle.plans.specs.Saves.{saves}
+use Rattle.table_values.specs.Saves.{saves}
 use Rattle.table_values.proofs.Facts.{rules-are, narrow, rest-is}
 use Rattle.table_check.specs.ValuesOk.{entriesFrom, codesOk, valuesOk}
 use Rattle.table_check.proofs.Entries.{length-entries}

@@ -6,14 +6,14 @@ use Rattle.format.specs.Column.{Head}
 use Rattle.format.specs.Editions.{editions, editionIn}
 use Rattle.values.specs.Edition.{editionOf}
 use Rattle.column.specs.Opened.{knownOf, judgedAs}
-use Rattle.column.proofs.HeaderNumbers.{quick-at, numbers-more}
+use Rattle.column.proofs.HeaderNumbers.{quick-at, byte-at, numbers-more}
 use Rattle.column.proofs.Steps.{all-numbers}
 use Rattle.column.proofs.at_once.quick.Statement.{statement}
 use Rattle.column.proofs.at_once.quick.Tie as tie
 
 -- the edition's number is one byte long,
 first : (c : tie.Else2) → numberAt (c .before .before .before .before .args .bytes .now) 0 ≡ done (c .before .quick-byte .result / 16, 1)
-first c = quick-at (c .before .quick-byte .ensures) (λ e. omega (arith, c .if2 .left, e)) refl (omega (arith, c .if2 .left))
+first c = byte-at (c .before .quick-byte .ensures) (omega (arith, c .if2 .left))
 
 -- and known
 known : (c : tie.After-known-told) → let e = c .before in
@@ -27,8 +27,8 @@ returns : tie.Need-returns-8
 returns c =
     let p3 = c .before in
     let p2 = p3 .before .before .before in
-    let p1 = p2 .before .before .before in
-    let p0 = p1 .before .before .before in
+    let w = p2 .before .before .before in
+    let p0 = w .before .before in
     let k = p0 .before .before .before in
     let e = k .before .before .before .before .before in
     let s = e .before .before .before .before .args .bytes .now in
@@ -36,9 +36,9 @@ returns c =
     let on = c .quick-values .ensures n in
     all-numbers s _ 1 (first e) _ (known k) _ _
     (numbers-more 7 s 1 (quick-at (p0 .before .before .quick-more .ensures) (p0 .before .if3 .left) refl (p0 .place-after .ensures .0))
-    (numbers-more 6 s _ (quick-at (p1 .before .before .quick-byte2 .ensures) (p1 .before .if4 .left) refl (p1 .place-after2 .ensures .0))
-    (numbers-more 5 s _ (quick-at (p2 .before .before .quick-more2 .ensures) (p2 .before .if5 .left) refl (p2 .place-after3 .ensures .0))
-    (numbers-more 4 s _ (quick-at (p3 .before .before .quick-number .ensures) (p3 .before .if6 .left) refl (p3 .place-after4 .ensures .0))
+    (numbers-more 6 s _ (byte-at (w .before .quick-byte2 .ensures) (omega (arith, w .if4 .left)))
+    (numbers-more 5 s _ (quick-at (p2 .before .before .quick-more2 .ensures) (p2 .before .if5 .left) refl (p2 .place-after2 .ensures .0))
+    (numbers-more 4 s _ (quick-at (p3 .before .before .quick-number .ensures) (p3 .before .if6 .left) refl (p3 .place-after3 .ensures .0))
     (on .read)))))
     ∙ ap (λ (h : Head). judgedAs s (record { head = h; start = c .quick-values .result .start })) (sym (on .head))
 
@@ -55,7 +55,7 @@ quick-spec =
     (λ c n. absurd (n (c .no-header4 .ensures)))
     (λ c κs. search needs) (λ c κs. search needs) (λ c κs. search needs)
     (λ c n. absurd (n (c .no-header5 .ensures)))
-    (λ c κs. search needs) (λ c κs. search needs) (λ c κs. search needs)
+    (λ c. search needs) (λ c κs. search needs) (λ c κs. search needs)
     (λ c n. absurd (n (c .no-header6 .ensures)))
     (λ c κs. search needs) (λ c κs. search needs) (λ c κs. search needs)
     (λ c n. absurd (n (c .no-header7 .ensures)))

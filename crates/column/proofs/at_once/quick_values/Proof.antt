@@ -1,6 +1,6 @@
 -- `column::at_once::quick_values` meets its contract: four numbers one after the other, each read at once. Assumes nothing.
-use Rattle.format.specs.Kit.{refl, needs}
-use Rattle.column.proofs.HeaderNumbers.{quick-at, numbers-none, numbers-more}
+use Rattle.format.specs.Kit.{refl, arith, needs}
+use Rattle.column.proofs.HeaderNumbers.{quick-at, byte-at, numbers-none, numbers-more}
 use Rattle.column.proofs.at_once.quick_values.Statement.{statement}
 use Rattle.column.proofs.at_once.quick_values.Tie as tie
 
@@ -9,16 +9,16 @@ returns c =
     let p3 = c .before in
     let p2 = p3 .before .before .before in
     let p1 = p2 .before .before .before in
-    let p0 = p1 .before .before .before in
-    let s = p0 .before .before .before .before .args .bytes .now in
+    let w = p1 .before .before .before in
+    let s = w .before .before .before .args .bytes .now in
     λ n.
     record {
       values = _;
       read =
-          numbers-more 3 s _ (quick-at (p0 .before .before .quick-byte .ensures) (p0 .before .if1 .left) refl (p0 .place-after .ensures .0))
-          (numbers-more 2 s _ (quick-at (p1 .before .before .quick-number .ensures) (p1 .before .if2 .left) refl (p1 .place-after2 .ensures .0))
-          (numbers-more 1 s _ (quick-at (p2 .before .before .quick-number2 .ensures) (p2 .before .if3 .left) refl (p2 .place-after3 .ensures .0))
-          (numbers-more 0 s _ (quick-at (p3 .before .before .quick-more .ensures) (p3 .before .if4 .left) refl (p3 .place-after4 .ensures .0))
+          numbers-more 3 s _ (byte-at (w .before .quick-byte .ensures) (omega (arith, w .if1 .left)))
+          (numbers-more 2 s _ (quick-at (p1 .before .before .quick-number .ensures) (p1 .before .if2 .left) refl (p1 .place-after .ensures .0))
+          (numbers-more 1 s _ (quick-at (p2 .before .before .quick-number2 .ensures) (p2 .before .if3 .left) refl (p2 .place-after2 .ensures .0))
+          (numbers-more 0 s _ (quick-at (p3 .before .before .quick-more .ensures) (p3 .before .if4 .left) refl (p3 .place-after3 .ensures .0))
           (numbers-none s _))));
       head = c .quick-head .ensures;
     }
@@ -28,7 +28,7 @@ quick-values-spec =
     tie.close (tie.spec
     (λ c κs. search needs) (λ c κs. search needs)
     (λ c n. absurd (n (c .no-header .ensures)))
-    (λ c κs. search needs) (λ c κs. search needs) (λ c κs. search needs)
+    (λ c. search needs) (λ c κs. search needs) (λ c κs. search needs)
     (λ c n. absurd (n (c .no-header2 .ensures)))
     (λ c κs. search needs) (λ c κs. search needs) (λ c κs. search needs)
     (λ c n. absurd (n (c .no-header3 .ensures)))

@@ -7,10 +7,10 @@ use Rattle.reference.proofs.values.put_values.Statement.{statement}
 use Rattle.reference.proofs.values.put_values.Tie as tie
 
 abbrev Inv-loop : tie.InvT-loop
-Inv-loop out₀ base values table f count bits j₀ out j = length out ≡ length out₀
+Inv-loop out₀ base values f bits j₀ out j = length out ≡ length out₀
 
 abbrev μ-loop : tie.MeasureT-loop
-μ-loop out₀ base values table f count bits j₀ out j = bits - j
+μ-loop out₀ base values f bits j₀ out j = bits - j
 
 pub put-values-spec : {M : Type 1} → statement M
 put-values-spec =

@@ -5,10 +5,10 @@ use Rattle.reference.proofs.values.span_of.Statement.{statement}
 use Rattle.reference.proofs.values.span_of.Tie as tie
 
 abbrev Inv-loop : tie.InvT-loop
-Inv-loop values from end first s₀ i₀ s i = Unit {0}
+Inv-loop values first s₀ i₀ end s i = Unit {0}
 
 abbrev μ-loop : tie.MeasureT-loop
-μ-loop values from end first s₀ i₀ s i = end - i
+μ-loop values first s₀ i₀ end s i = end - i
 
 pub span-of-spec : {M : Type 1} → statement M
 span-of-spec =

@@ -1,0 +1,2 @@
+-- Runs laid down one after the other.
+pub mod Laid

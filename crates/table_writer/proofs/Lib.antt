@@ -1,0 +1,2 @@
+-- An entry, and the codes, written.
+pub mod Written

@@ -1,0 +1,216 @@
+//! A checked column asked and walked over: beside the list, the proved reading and the reference.
+
+use crate::common::parts::Parts;
+use crate::common::{
+    block_ids, few_ids, ids_of, same, values_of_width, Random, BLOCK_COUNTS, EDITIONS, POWERS,
+};
+use signalfern::{Checked, Edition, Pairs, Refusal, MAX_COUNT, MAX_ID};
+
+/// A column of the list, and what is asked of it.
+struct Listed {
+    ids: Vec<u32>,
+    values: Vec<i64>,
+    bytes: Vec<u8>,
+}
+
+impl Listed {
+    fn new(ids: Vec<u32>, values: Vec<i64>, edition: Edition, power: u32) -> Self {
+        let bytes = signalfern::write_to_vec(&ids, &values, edition, power).unwrap();
+        Self { ids, values, bytes }
+    }
+
+    /// The pairs from an index on.
+    fn pairs(&self, index: usize) -> impl Iterator<Item = (u32, i64)> + '_ {
+        let ids = self.ids[index..].iter().copied();
+        ids.zip(self.values[index..].iter().copied())
+    }
+
+    /// Walks over the whole, and from each id to at most `most` pairs.
+    #[track_caller]
+    fn try_all(&self, asked: impl IntoIterator<Item = u32>, most: usize) {
+        let column = same::walk(&self.bytes).unwrap();
+        assert!(column.iter().eq(self.pairs(0)));
+        for id in asked {
+            let index = self.ids.partition_point(|&listed| listed < id);
+            let walk = column.iter_from(id);
+            assert_eq!(walk.len(), self.ids.len() - index, "from {id}");
+            assert!(
+                walk.take(most).eq(self.pairs(index).take(most)),
+                "from {id}"
+            );
+            let value = (self.ids.get(index) == Some(&id)).then(|| self.values[index]);
+            assert_eq!(column.get(id), value, "id {id}");
+            assert_eq!(column.contains(id), value.is_some(), "id {id}");
+        }
+    }
+}
+
+/// Ids at the borders of words, strides and blocks near these blocks, and the limits.
+fn border_ids(random: &mut Random, numbers: &[u32]) -> Vec<u32> {
+    let mut asked = vec![0, 1, MAX_ID, MAX_ID + 1, u32::MAX];
+    for &number in numbers {
+        let base = number << 16;
+        let places = [0, 1, 62, 63, 64, 65, 65_471, 65_472, 65_473, 65_534, 65_535];
+        asked.extend(places.map(|place| base | place));
+        for power in POWERS {
+            let border = base | ((random.below(65_536) as u32 >> power) << power);
+            asked.extend([border, border | 1, border | 63, border.saturating_sub(1)]);
+        }
+        asked.extend([base.saturating_sub(1), base + 65_536, base + 65_537]);
+        asked.extend((0..10).map(|_| base | random.below(65_536) as u32));
+    }
+    asked
+}
+
+#[test]
+fn every_block_kind_at_every_power() {
+    let mut random = Random::new(40);
+    for count in BLOCK_COUNTS {
+        for number in [0, 1, 40] {
+            for power in POWERS {
+                let ids = block_ids(&mut random, number, count);
+                let width = random.below(20) as u32;
+                let values = values_of_width(&mut random, count, width);
+                let asked = border_ids(&mut random, &[number]);
+                let edition = random.pick(&EDITIONS);
+                Listed::new(ids, values, edition, power).try_all(asked, 300);
+            }
+        }
+    }
+}
+
+#[test]
+fn missing_blocks_and_jumps() {
+    let mut random = Random::new(41);
+    for blocks in [
+        &[(0, 3), (1, 1)][..],
+        &[(1, 1)],
+        &[(2, 5), (3, 65_536), (9, 4096)],
+        &[(0, 65_536), (1, 65_536), (2, 65_536)],
+        &[(5, 4095), (6, 4096), (100, 2)],
+        &[(0, 1), (32_765, 1)],
+        &[(32_764, 5000), (32_765, 65_535)],
+        &[(700, 10), (1000, 65_536), (1001, 20_000)],
+    ] {
+        let numbers: Vec<u32> = blocks.iter().map(|block| block.0).collect();
+        for power in POWERS {
+            let ids = ids_of(&mut random, blocks);
+            let values = values_of_width(&mut random, ids.len(), 9);
+            let mut asked = border_ids(&mut random, &numbers);
+            asked.extend(numbers.iter().flat_map(|number| {
+                [number.saturating_sub(1), number + 1, number + 2].map(|number| number << 16 | 77)
+            }));
+            let edition = random.pick(&EDITIONS);
+            Listed::new(ids, values, edition, power).try_all(asked, 70_000);
+        }
+    }
+}
+
+#[test]
+fn every_width() {
+    let mut random = Random::new(42);
+    for width in 0..=64 {
+        // Any count modulo 8 leaves its own spare bits, and the last numbers reach the end.
+        for count in (0..20).chain([63, 64, 65, 200]) {
+            let ids: Vec<u32> = (0..count as u32).map(|i| i * 3).collect();
+            let most = u64::MAX.checked_shr(64 - width).unwrap_or(0);
+            for low in [i64::MIN, i64::MAX.wrapping_sub_unsigned(most), -1] {
+                let Some(high) = low.checked_add_unsigned(most) else {
+                    continue;
+                };
+                let mut values = vec![low; count];
+                values.fill_with(|| low.wrapping_add_unsigned(random.next() & most));
+                values.splice(..2.min(count), [high, low].into_iter().take(2.min(count)));
+                let asked = 0..3 * count as u32 + 2;
+                for edition in EDITIONS {
+                    let listed = Listed::new(ids.clone(), values.clone(), edition, 9);
+                    listed.try_all(asked.clone(), usize::MAX);
+                }
+            }
+        }
+    }
+}
+
+#[test]
+fn many_short_lists() {
+    let mut random = Random::new(43);
+    for _ in 0..2000 {
+        let ids = few_ids(&mut random, 40);
+        let width = random.below(65) as u32;
+        let values = values_of_width(&mut random, ids.len(), width);
+        let asked: Vec<u32> = (ids.iter())
+            .flat_map(|id| [*id, id + 1, id.saturating_sub(1), id ^ 65_536])
+            .collect();
+        let edition = random.pick(&EDITIONS);
+        let listed = Listed::new(ids, values, edition, random.pick(&POWERS));
+        listed.try_all(asked, usize::MAX);
+    }
+}
+
+#[test]
+fn the_walk_tells_what_is_left() {
+    let listed = Listed::new(vec![1, 70_000, 70_001], vec![5, -5, 0], Edition::Lucene, 9);
+    let column = Checked::new(&listed.bytes).unwrap();
+    let mut walk: Pairs = column.iter();
+    for left in [3, 2, 1] {
+        assert_eq!((walk.len(), walk.clone().count()), (left, left));
+        assert_eq!(walk.size_hint(), (left, Some(left)));
+        assert!(walk.clone().eq(listed.pairs(3 - left)));
+        assert!(walk.next().is_some());
+    }
+    assert_eq!((walk.len(), walk.next(), walk.next()), (0, None, None));
+    assert_eq!((&column).into_iter().count(), column.into_iter().count());
+    assert_eq!((column.len(), column.is_empty()), (3, false));
+}
+
+#[test]
+fn every_id_that_there_is() {
+    // 393 KB, and no memory for two thousand million pairs.
+    let bytes = Parts::full_blocks(32_766).bytes();
+    let column = Checked::new(&bytes).unwrap();
+    assert_eq!(column.len() as u64, MAX_COUNT);
+    assert_eq!(column.iter().len() as u64, MAX_COUNT);
+    for first in [0, 65_530, 1 << 30, MAX_ID - 9] {
+        let walk = column.iter_from(first);
+        assert_eq!(walk.len() as u64, MAX_COUNT - u64::from(first));
+        assert!(walk.take(10).eq((first..first + 10).map(|id| (id, 42))));
+    }
+    assert_eq!(column.iter_from(MAX_ID).last(), Some((MAX_ID, 42)));
+    assert_eq!(column.iter_from(MAX_ID + 1).next(), None);
+}
+
+#[test]
+fn damage_makes_no_checked_column() {
+    let listed = Listed::new(vec![0, 2, 7], vec![150, 140, 135], Edition::Plain, 9);
+    for (at, bits, refusal) in [
+        (0, 8, Refusal::Edition),
+        // Of edition 2: D0 has the bits 00 00 10 low first, and 11 in the spare ones.
+        (0, 3, Refusal::Damaged),
+        // Of edition 3, whose header has no width, and of edition 4, which has no smallest value.
+        (0, 2, Refusal::Header),
+        (0, 5, Refusal::Header),
+        (2, 8, Refusal::Header),
+        (3, 1, Refusal::Length),
+        (14, 2, Refusal::Damaged),
+        (26, 1, Refusal::Damaged),
+        // Stored 2, 0, 2 for 3, 1, 0.
+        (26, 0x58, Refusal::Damaged),
+    ] {
+        let mut bytes = listed.bytes.clone();
+        bytes[at] ^= bits;
+        assert_eq!(Checked::new(&bytes).unwrap_err(), refusal, "byte {at}");
+    }
+}
+
+#[test]
+fn another_column_is_no_damage() {
+    // The format has no checksum: this bit makes 145 of 150, and the column of another list.
+    let mut listed = Listed::new(vec![0, 2, 7], vec![150, 140, 135], Edition::Plain, 9);
+    listed.bytes[26] ^= 0x40;
+    listed.values[0] = 145;
+    listed.try_all([0, 2, 7], 3);
+    // And this one divisor 7 of divisor 5: stored are 2, 1, 0.
+    listed.bytes[8] ^= 2;
+    listed.values = vec![149, 142, 135];
+    listed.try_all([0, 2, 7], 3);
+}

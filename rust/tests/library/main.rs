@@ -1,0 +1,39 @@
+//! The library's calls beside the reference, the documents' cases and columns worked out by hand; C
+//! programs, the examples and the installation. (One program for all: what they share is compiled once,
+//! and the proved archive is linked once.)
+
+#[path = "../common/mod.rs"]
+mod common;
+
+mod arrangement;
+mod between;
+mod buffers;
+mod by_hand;
+mod c_example;
+mod checked;
+mod damage;
+mod divisor;
+mod document;
+mod editions;
+mod examples;
+mod fetching;
+mod fields;
+mod format_page;
+mod header;
+mod install;
+mod layered;
+mod lists;
+mod next;
+mod next_any_bytes;
+mod next_damage;
+mod page;
+mod pairs;
+mod plans;
+mod probes;
+mod runs;
+mod runs_damage;
+mod section;
+mod set;
+mod steps;
+mod tables;
+mod tables_damage;

@@ -1,0 +1,146 @@
+//! look-up with a correction on top, and audit: which column spoke, and the bytes that it spoke by.
+
+use crate::common::tool::{run, run_with, Folder};
+
+/// A machine column of three pairs, and a correction of one of them and of another id.
+fn layers(name: &str) -> (Folder, String, String) {
+    let folder = Folder::new(name);
+    let machine = folder.column("machine", &[0, 2, 7], &[150, 140, 135]);
+    let correction = folder.column("correction", &[2, 4], &[-1, 254]);
+    (folder, machine, correction)
+}
+
+#[test]
+fn which_column_spoke() {
+    let (folder, machine, correction) = layers("layered");
+    let words = ["look-up", &machine, "--correction", &correction];
+    let ran = run(&[&words[..], &["0", "2", "4", "5"]].concat()).expect(0, &[]);
+    let answers = "0 150 by machine ordinal 0 words machine 0 correction 0\n\
+                   2 -1 by correction ordinal 0 words machine 0 correction 0\n\
+                   4 254 by correction ordinal 1 words machine 0 correction 0\n\
+                   5 absent words machine 0 correction 0\n";
+    assert_eq!(ran.out, answers);
+    let list = folder.put("ids", "0 2\n4 5\n");
+    let ran = run(&[&words[..], &["--ids", &list]].concat()).expect(0, &[]);
+    assert_eq!(ran.out, answers);
+    let from_pipe = ["look-up", &machine, "-c", "-", "2"];
+    let ran = run_with(&from_pipe, &folder.bytes("correction")).expect(0, &[]);
+    assert!(answers.contains(&ran.out) && ran.out.starts_with("2 -1"));
+    // The other way round.
+    let ran = run(&["look-up", &correction, "-c", &machine, "2", "4"]).expect(0, &[]);
+    let answers = "2 140 by correction ordinal 1 words machine 0 correction 0\n\
+                   4 254 by machine ordinal 1 words machine 0 correction 0\n";
+    assert_eq!(ran.out, answers);
+}
+
+#[test]
+fn the_words_of_each() {
+    let folder = Folder::new("layered_words");
+    let ids: Vec<u32> = (0..5000).collect();
+    let machine = folder.column("machine", &ids, &vec![7; 5000]);
+    let correction = folder.column("correction", &ids[..4500], &vec![8; 4500]);
+    let words = [
+        "look-up",
+        &machine,
+        "-c",
+        &correction,
+        "600",
+        "4600",
+        "6000",
+    ];
+    let ran = run(&words).expect(0, &[]);
+    // Place 600 is in the second word of its stride, and 4600 in the eighth; a clear bit costs one.
+    let answers = "600 8 by correction ordinal 600 words machine 0 correction 2\n\
+                   4600 7 by machine ordinal 4600 words machine 8 correction 1\n\
+                   6000 absent words machine 1 correction 1\n";
+    assert_eq!(ran.out, answers);
+}
+
+#[test]
+fn no_score_where_one_of_them_is_refused() {
+    let (folder, machine, correction) = layers("layered_refused");
+    let mut bytes = folder.bytes("machine");
+    bytes[12] = 3; // Four places where there is room for three.
+    let broken = folder.put("broken", &bytes);
+    for (below, above) in [(&machine, &broken), (&broken, &correction)] {
+        let words = ["broken: refusal 13, DAMAGED", "signalfern check"];
+        run(&["look-up", below, "-c", above, "2"]).expect(1, &words);
+        run(&["audit", below, "-c", above, "2"]).expect(1, &words);
+    }
+    // Unchecked, the column that refuses is named, and the correction is asked first.
+    let unchecked = ["look-up", "--unchecked", "-c"];
+    let ran = run(&[&unchecked[..], &[&broken, &machine, "2"]].concat());
+    ran.expect(1, &["broken: id 2: refusal 15, BROKEN"]);
+    let ran = run(&[&unchecked[..], &[&correction, &broken, "2", "0"]].concat());
+    assert_eq!(
+        ran.out,
+        "2 -1 by correction ordinal 0 words machine 0 correction 0\n"
+    );
+    let warned = ran.err.matches("is not checked").count();
+    assert!(
+        warned == 2 && ran.err.contains("broken: id 0: refusal 15, BROKEN"),
+        "{}",
+        ran.err
+    );
+    for command in ["look-up", "audit"] {
+        let words = ["machine: id 2147352576: refusal 14, ID"];
+        run(&[command, &machine, "-c", &correction, "2147352576"]).expect(1, &words);
+    }
+}
+
+#[test]
+fn the_bytes_that_hold_a_value() {
+    let (folder, machine, correction) = layers("audit");
+    // Stored are 3, 1 and 0 in the last byte of 27: D0.
+    let ran = run(&["audit", &machine, "7", "--correction", &correction]).expect(0, &[]);
+    let told = format!(
+        "id 7: value 135, ordinal 2, by the machine column {machine}\n  \
+         value section: 1 byte, from byte 26 (0x1A) on\n  \
+         stored number 2: 0, in 2 bits from bit 4 of the section on; 135 + 5 * 0 = 135\n  \
+         byte 26 (0x1A): D0  1101[00]00\n"
+    );
+    assert_eq!(ran.out, told);
+    // Of -1 and 254 stored are 0 and 1, with divisor 255, in the last byte.
+    let ran = run(&["audit", &machine, "4", "-c", &correction]).expect(0, &[]);
+    let len = folder.bytes("correction").len();
+    let words = [
+        "value 254, ordinal 1, by the correction column",
+        "stored number 1: 1, in 1 bit from bit 1 of the section on; -1 + 255 * 1 = 254",
+        &format!("byte {} (0x{:X}): 40  0[1]000000", len - 1, len - 1),
+    ];
+    ran.expect(0, &words);
+    let ran = run(&["audit", &machine, "5", "-c", &correction]).expect(0, &[]);
+    assert_eq!(ran.out, "id 5: in neither column\n");
+    let equal = folder.column("equal", &[5, 6], &[9, 9]);
+    let ran = run(&["audit", &machine, "6", "-c", &equal]).expect(0, &[]);
+    let told = format!("id 6: value 9, ordinal 1, by the correction column {equal}\n");
+    assert_eq!(ran.out, told + "  no bits are stored: every value is 9\n");
+}
+
+#[test]
+fn a_value_over_several_bytes() {
+    let folder = Folder::new("audit_wide");
+    // 13 bits each: number 1 has the bits 13 to 25, 4681 of them 1001001001001.
+    let machine = folder.column("machine", &[1, 2, 3, 4], &[0, 4681, 8191, 1]);
+    let empty = folder.column("empty", &[], &[]);
+    let ran = run(&["audit", &machine, "2", "-c", &empty]).expect(0, &[]);
+    let bytes = folder.bytes("machine");
+    let start = bytes.len() - 7;
+    let mut told = vec![
+        format!("id 2: value 4681, ordinal 1, by the machine column {machine}"),
+        format!("  value section: 7 bytes, from byte {start} (0x{start:X}) on"),
+        "  stored number 1: 4681, in 13 bits from bit 13 of the section on; 0 + 1 * 4681 = 4681"
+            .to_string(),
+    ];
+    // 0000000000000 1001001001001 1111111111111 ..., eight at a time.
+    for (at, byte, bits) in [
+        (1, "04", "00000[100]"),
+        (2, "92", "[10010010]"),
+        (3, "7F", "[01]111111"),
+    ] {
+        let place = start + at;
+        assert_eq!(format!("{:02X}", bytes[place]), byte);
+        told.push(format!("  byte {place} (0x{place:X}): {byte}  {bits}"));
+    }
+    assert_eq!(ran.out.lines().collect::<Vec<_>>(), told);
+}
