@@ -26,7 +26,7 @@ fn is_there(lo: usize, hi: usize, x: u32, r: u32) -> bool
     (lo < hi) & (x == r)
 }
 
-// The index of r among the entries of a sparse block, or 65536. Before a probe n - 1 entries are left or n, so after the last at most one.
+// The index of r among the entries of a sparse block, or `NOWHERE`. Before a probe n - 1 entries are left or n, so after the last at most one.
 pub fn index_in(s: &[u8], at: usize, count: usize, r: u32) -> u64
     requires { ⌜ (at + 2 * count ≤ length (now s)) × (0 < count) × (count < denseCount) ⌝ }
     ensures { λ i. ⌜ i ≡ indexOr (halved r (shorts count (drop at (now (s .entry))))) ⌝ }
@@ -46,5 +46,5 @@ pub fn index_in(s: &[u8], at: usize, count: usize, r: u32) -> u64
     if is_there(lo, hi, x, r) {
         return numbers::long(m);
     }
-    65536
+    super::NOWHERE
 }

@@ -28,6 +28,9 @@ pub enum Inner {
 
 // ---- step 5, sparse (document 02, [8])
 
+// The index of a place that is not there: no block has so many.
+pub const NOWHERE: u64 = 65536;
+
 // What is chosen after a probe that gave x: `past` where x is below r, and `before` otherwise. (Both ends move by it, so that neither
 // is guessed: which half is left cannot be foretold.)
 fn left(x: u32, r: u32, past: usize, before: usize) -> usize
@@ -40,7 +43,7 @@ fn left(x: u32, r: u32, past: usize, before: usize) -> usize
 }
 
 // r among the entries lo to hi (hi not included) of those at `at`, after some probes: each probe halves what is left of the entries. The
-// slice by reference and the result in one word (16 times the index, or times 65536 where r is not there, and the probes), so that
+// slice by reference and the result in one word (16 times the index, or `NOWHERE`, and the probes), so that
 // nothing goes through memory and the call of itself is a jump.
 fn halve(s: &&[u8], at: usize, lo: usize, hi: usize, r: u32, probes: u64) -> u64
     requires { ⌜ (lo ≤ hi) × (hi < blockPlaces) × (at + 2 * hi ≤ length (now (now s))) × (at + 2 * hi < 2 ^ 64)
@@ -48,7 +51,7 @@ fn halve(s: &&[u8], at: usize, lo: usize, hi: usize, r: u32, probes: u64) -> u64
     ensures { λ w. ⌜ ((c : ℕ) → hi ≤ c → w ≡ inOneWord (halve r (shorts c (drop at (now (now (s .entry))))) lo hi probes)) ⌝ }
 {
     if lo == hi {
-        return 16 * 65536 + probes;
+        return 16 * NOWHERE + probes;
     }
     let m = (lo + hi) / 2;
     let x = numbers::short_at(*s, at + 2 * m) as u32;
@@ -71,7 +74,7 @@ fn sparse(s: &[u8], at: usize, count: usize, r: u64) -> Inner
     ensures { λ a. ⌜ (Searched (halving r (shorts count (drop at (now (s .entry))))) a) × (Below count a) × (probesOf a ≤ 12) ⌝ }
 {
     let w = halve(&s, at, 0, count, r as u32, 0);
-    if w < 16 * 65536 {
+    if w < 16 * NOWHERE {
         return Inner::At {
             inner: (w / 16) as u32,
             words: 0,

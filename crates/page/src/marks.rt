@@ -36,7 +36,7 @@ fn in_sparse(s: &[u8], block: Block, r: usize) -> Mark
 {
     let start = block.start;
     let i = in_block::index_in(s, start, block.count, r as u32);
-    if i < 65536 {
+    if i < in_block::NOWHERE {
         return Mark::At {
             ordinal: block.ordinal + i,
             words: 0,

@@ -1,4 +1,5 @@
--- `set_writer::put_missing` meets its contract. Assumes nothing.
+-- `set_writer::put_missing` meets its contract. The loop's invariant: the missing places from x on, past the listed ones before index j, are what
+-- is left to store from i on. Assumes nothing.
 use Rattle.format.specs.Kit.{_≡_, refl, sym, ap, _∙_, subst, List, ℕ, suc, _+_, _-_, _++_, _*_, _≤_, add-one, arith, length, needs, sets}
 use Rattle.format.specs.Pairs.{Asc}
 use Rattle.format.specs.SetBytes.{missing}
