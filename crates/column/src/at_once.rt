@@ -88,7 +88,7 @@ fn quick_values(bytes: &[u8], edition: Edition, n: u64, p: u64, l: u64, j: u64, 
     ensures { λ r. ⌜ ((r .head .«id_bytes» ≡ 0 → ⊥) → ReadOn (editionOf edition) (now (bytes .entry)) at (n / 16) (p / 16) (l / 16) (j / 16) (columnOf r)) ⌝ }
 {
     let w = quick_byte(bytes, at);
-    if w % 16 != 1 {
+    if w == 0 {
         return no_header();
     }
     let after_w = at + 1;
@@ -134,7 +134,7 @@ pub fn quick(bytes: &[u8]) -> Column
     }
     let after_n = place_after(1, n);
     let p = quick_byte(bytes, after_n);
-    if p % 16 != 1 {
+    if p == 0 {
         return no_header();
     }
     let after_p = after_n + 1;

@@ -1,6 +1,6 @@
 // Header numbers, in groups of seven bits (document 01, "Header"): their length, writing and reading.
 ghost use mathlib.Core.Path.{_≡_};
-ghost use Prim.Native.Nat.{_+_, _≤_, _<_};
+ghost use Prim.Native.Nat.{_+_, _%_, _≤_, _<_};
 ghost use lib.ListN.{length, drop};
 ghost use lib.Seq.{sets};
 ghost use Rattle.format.specs.HeaderNumbers.{number, readNumber, readGroups};
@@ -174,7 +174,7 @@ pub fn quick_number(s: &[u8], at: usize) -> u64
 // The same of one byte alone.
 pub fn quick_byte(s: &[u8], at: usize) -> u64
     requires { ⌜ at < length (now s) ⌝ }
-    ensures { λ r. ⌜ Quick (now (s .entry)) at r ⌝ }
+    ensures { λ r. ⌜ (Quick (now (s .entry)) at r) × ((r ≡ 0 → ⊥) → r % 16 ≡ 1) ⌝ }
 {
     let b = wide(s[at]);
     if b < 128 {

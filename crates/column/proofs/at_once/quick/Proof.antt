@@ -13,7 +13,7 @@ use Rattle.column.proofs.at_once.quick.Tie as tie
 
 -- the edition's number is one byte long,
 first : (c : tie.Else2) → numberAt (c .before .before .before .before .args .bytes .now) 0 ≡ done (c .before .quick-byte .result / 16, 1)
-first c = byte-at (c .before .quick-byte .ensures) (omega (arith, c .if2 .left))
+first c = byte-at (c .before .quick-byte .ensures .0) (omega (arith, c .if2 .left))
 
 -- and known
 known : (c : tie.After-known-told) → let e = c .before in
@@ -36,7 +36,7 @@ returns c =
     let on = c .quick-values .ensures n in
     all-numbers s _ 1 (first e) _ (known k) _ _
     (numbers-more 7 s 1 (quick-at (p0 .before .before .quick-more .ensures) (p0 .before .if3 .left) refl (p0 .place-after .ensures .0))
-    (numbers-more 6 s _ (byte-at (w .before .quick-byte2 .ensures) (omega (arith, w .if4 .left)))
+    (numbers-more 6 s _ (byte-at (w .before .quick-byte2 .ensures .0) (w .before .quick-byte2 .ensures .1 (w .if4 .left)))
     (numbers-more 5 s _ (quick-at (p2 .before .before .quick-more2 .ensures) (p2 .before .if5 .left) refl (p2 .place-after2 .ensures .0))
     (numbers-more 4 s _ (quick-at (p3 .before .before .quick-number .ensures) (p3 .before .if6 .left) refl (p3 .place-after3 .ensures .0))
     (on .read)))))
