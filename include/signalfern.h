@@ -140,7 +140,8 @@ typedef struct {
     uint64_t id_bytes;    /* L, the bytes of the id section */
     uint64_t jump_count;  /* J, the count of jump entries */
     uint64_t width;       /* w, the bits of a stored number: 0 to 64, of which edition 2 has some only;
-                             0 in edition 3, whose runs have their own */
+                             0 in edition 3, whose runs have their own; in edition 4 the bits of a code,
+                             1 to 8 */
     uint64_t smallest;    /* the smallest value v as the header has it: 2v, or -2v-1 if v < 0;
                              signalfern_smallest gives v; 0 in edition 3, whose runs have their own, and
                              in edition 4, whose table has all values */

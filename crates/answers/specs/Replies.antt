@@ -7,7 +7,7 @@ use Rattle.format.specs.LookUp.{Look, found, absent}
 use Rattle.format.specs.Next.{Candidate, candidateAt, noCandidate}
 use Rattle.format.specs.SetCalls as Sc
 use Rattle.format.specs.Orders.{Order, lowByte, highByte}
-use Rattle.format.specs.Judge.{cutOff, blockOrder, placeOrder, onesUnlike, rankWrong, endWrong, jumpWrong, leftOver}
+use Rattle.format.specs.Judge.{cutOff, blockOrder, placeOrder, onesUnlike, rankWrong, endWrong, jumpWrong, leftOver, Verdict, accepted, faulty}
 use Rattle.answers.specs.declared.Refusal as Re
 use Rattle.answers.specs.declared.Reply as Rp
 use Rattle.answers.specs.declared.Answer as An
@@ -101,9 +101,10 @@ reasonNumber Rs.Reason.EndWrong = endWrong
 reasonNumber Rs.Reason.JumpWrong = jumpWrong
 reasonNumber Rs.Reason.LeftOver = leftOver
 
-abbrev pub judgementOf : Ju.Judgement → Outcome ℕ
-judgementOf (Ju.Judgement.Accepted n) = done n
-judgementOf (Ju.Judgement.Faulty why at) = refused (reasonNumber why) at
+-- a reason is no refusal; HEADER is the one
+abbrev pub judgementOf : Ju.Judgement → Outcome Verdict
+judgementOf (Ju.Judgement.Accepted n) = done (accepted n)
+judgementOf (Ju.Judgement.Faulty why at) = done (faulty (reasonNumber why) at)
 judgementOf Ju.Judgement.Header = refused HEADER 0
 
 abbrev pub betweenOf : Be.Between → Outcome (Option ℕ)

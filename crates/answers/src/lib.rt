@@ -46,6 +46,11 @@ pub enum Answer {
     Refused(Refusal),
 }
 
+// The kind of an answer, where a number tells it: found, absent, or else the refusal's number (document 02, [3]).
+pub const FOUND: u64 = 0;
+
+pub const ABSENT: u64 = 1;
+
 // The last target that was answered (document 02, [1]). Any is fit.
 pub struct Cursor {
     pub last: u32,
@@ -179,19 +184,36 @@ impl Refusal {
 }
 
 impl Reason {
+    // The reasons' numbers.
+    pub const CUT_OFF: u64 = 1;
+
+    pub const BLOCK_ORDER: u64 = 2;
+
+    pub const PLACE_ORDER: u64 = 3;
+
+    pub const ONES_UNLIKE: u64 = 4;
+
+    pub const RANK_WRONG: u64 = 5;
+
+    pub const END_WRONG: u64 = 6;
+
+    pub const JUMP_WRONG: u64 = 7;
+
+    pub const LEFT_OVER: u64 = 8;
+
     // The reason's number, 1 to 8.
     pub fn number(self) -> u64
         ensures { λ r. ⌜ r ≡ reasonNumber self ⌝ }
     {
         match self {
-            Reason::CutOff => 1,
-            Reason::BlockOrder => 2,
-            Reason::PlaceOrder => 3,
-            Reason::OnesUnlike => 4,
-            Reason::RankWrong => 5,
-            Reason::EndWrong => 6,
-            Reason::JumpWrong => 7,
-            Reason::LeftOver => 8,
+            Reason::CutOff => Reason::CUT_OFF,
+            Reason::BlockOrder => Reason::BLOCK_ORDER,
+            Reason::PlaceOrder => Reason::PLACE_ORDER,
+            Reason::OnesUnlike => Reason::ONES_UNLIKE,
+            Reason::RankWrong => Reason::RANK_WRONG,
+            Reason::EndWrong => Reason::END_WRONG,
+            Reason::JumpWrong => Reason::JUMP_WRONG,
+            Reason::LeftOver => Reason::LEFT_OVER,
         }
     }
 }

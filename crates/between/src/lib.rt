@@ -16,9 +16,6 @@ use column::Opening;
 use header_numbers::Number;
 use run_reader::Found;
 
-// The number of edition 3.
-const RUNS: u64 = 3;
-
 // Whether the bytes are of another edition, by the first header number: a reader that knows edition 3 alone refuses them, and else opens
 // them as every reader does.
 fn other_edition(bytes: &[u8]) -> bool
@@ -28,7 +25,7 @@ fn other_edition(bytes: &[u8]) -> bool
     let Number::Is { value, .. } = first else {
         return false;
     };
-    if value == RUNS {
+    if value == column::RUNS {
         return false;
     }
     true
@@ -64,7 +61,7 @@ pub fn first_between_in(column: Column, bytes: &[u8], low: i64, high: i64) -> Be
 {
     let head = column.head;
     let edition = head.edition;
-    if column::number_of(edition) != RUNS {
+    if column::number_of(edition) != column::RUNS {
         return Between::Refused(Refusal::Edition);
     }
     if !column::head_ok(head) {

@@ -2,6 +2,8 @@
 ghost use mathlib.Core.Path.{_≡_};
 ghost use Rattle.layered.specs.Answers.{layerOf, layeredOf, partOf};
 ghost use Rattle.boundary.specs.Layers.{layerC, layeredC, partC};
+use answers::ABSENT;
+use answers::FOUND;
 use layered::Layer;
 use layered::Layered;
 use layered::Part;
@@ -46,7 +48,7 @@ pub fn layered_c(answer: Layered) -> CLayered
             machine_words,
             correction_words,
         } => CLayered {
-            kind: 0,
+            kind: FOUND,
             number: 0,
             column: layer_c(layer),
             ordinal,
@@ -58,7 +60,7 @@ pub fn layered_c(answer: Layered) -> CLayered
             machine_words,
             correction_words,
         } => CLayered {
-            kind: 1,
+            kind: ABSENT,
             number: 0,
             column: 0,
             ordinal: 0,

@@ -7,8 +7,10 @@ ghost use Rattle.answers.specs.Replies.{replyOf, answerOf, candidateOf, Probed}
 ghost use Rattle.values.specs.Edition.{editionOf};
 ghost use Rattle.column.specs.Opened.{columnOf, openedOf};
 ghost use Rattle.boundary.specs.Boundary.{replyC, answerC, columnC, openedAs, openedC, candidateC};
+use answers::ABSENT;
 use answers::Answer;
 use answers::Candidate;
+use answers::FOUND;
 use answers::Next;
 use answers::Reply;
 use column::Column;
@@ -101,7 +103,7 @@ pub fn answer_c(answer: Answer) -> CAnswer
             words,
             probes,
         } => CAnswer {
-            kind: 0,
+            kind: FOUND,
             number: 0,
             ordinal,
             value,
@@ -109,7 +111,7 @@ pub fn answer_c(answer: Answer) -> CAnswer
             probes,
         },
         Answer::Absent { words, probes } => CAnswer {
-            kind: 1,
+            kind: ABSENT,
             number: 0,
             ordinal: 0,
             value: 0,
@@ -176,7 +178,7 @@ pub fn candidate_c(next: Next) -> CCandidate
     let candidate = next.candidate;
     match candidate {
         Candidate::Found { id, ordinal, value } => CCandidate {
-            kind: 0,
+            kind: FOUND,
             number: 0,
             id: id as u64,
             ordinal,
@@ -184,7 +186,7 @@ pub fn candidate_c(next: Next) -> CCandidate
             cursor,
         },
         Candidate::Nothing => CCandidate {
-            kind: 1,
+            kind: ABSENT,
             number: 0,
             id: 0,
             ordinal: 0,
@@ -225,7 +227,7 @@ fn numbers_in(column: CColumn, edition: Edition, width: u64) -> Column
 }
 
 // A width above every edition's.
-const TOO_WIDE: u64 = 65;
+const TOO_WIDE: u64 = Column::MAX_WIDTH + 1;
 
 // A column handed in: where its edition number is none, one that breaks a header rule. (Why by its width: docs/DECISIONS.md, "Speed".)
 pub fn column_in(column: CColumn) -> Column

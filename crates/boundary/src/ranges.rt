@@ -2,7 +2,9 @@
 ghost use mathlib.Core.Path.{_≡_};
 ghost use Rattle.answers.specs.Replies.{betweenOf};
 ghost use Rattle.boundary.specs.Boundary.{betweenC};
+use answers::ABSENT;
 use answers::Between;
+use answers::FOUND;
 
 // signalfern_between
 #[repr(C)]
@@ -17,12 +19,12 @@ pub fn between_c(between: Between) -> CBetween
 {
     match between {
         Between::Found(ordinal) => CBetween {
-            kind: 0,
+            kind: FOUND,
             number: 0,
             ordinal,
         },
         Between::Nothing => CBetween {
-            kind: 1,
+            kind: ABSENT,
             number: 0,
             ordinal: 0,
         },

@@ -4,6 +4,7 @@ ghost use Rattle.answers.specs.Replies.{orderOf, judgementOf};
 ghost use Rattle.boundary.specs.Sections.{orderC, judgementC};
 use answers::ByteOrder;
 use answers::Judgement;
+use answers::Refusal;
 
 // signalfern_judgement
 #[repr(C)]
@@ -40,7 +41,7 @@ pub fn judgement_c(judgement: Judgement) -> CJudgement
             reason: why.number(),
         },
         Judgement::Header => CJudgement {
-            kind: 10,
+            kind: Refusal::Header.number(),
             number: 0,
             place: 0,
             reason: 0,

@@ -14,13 +14,13 @@ fn reason_of(why: u64) -> Reason
     ensures { λ r. ⌜ reasonNumber r ≡ why ⌝ }
 {
     match why {
-        1 => Reason::CutOff,
-        2 => Reason::BlockOrder,
-        3 => Reason::PlaceOrder,
-        4 => Reason::OnesUnlike,
-        5 => Reason::RankWrong,
-        6 => Reason::EndWrong,
-        7 => Reason::JumpWrong,
+        Reason::CUT_OFF => Reason::CutOff,
+        Reason::BLOCK_ORDER => Reason::BlockOrder,
+        Reason::PLACE_ORDER => Reason::PlaceOrder,
+        Reason::ONES_UNLIKE => Reason::OnesUnlike,
+        Reason::RANK_WRONG => Reason::RankWrong,
+        Reason::END_WRONG => Reason::EndWrong,
+        Reason::JUMP_WRONG => Reason::JumpWrong,
         _ => Reason::LeftOver,
     }
 }

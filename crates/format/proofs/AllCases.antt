@@ -1,6 +1,6 @@
 -- Every computed case about the definitions, in one statement: document 01's starred table, both sides of each refusal's line, and of
--- document 02 the next candidate ([1]), the divisor ([2]), the places ([4]), the bytes of a fetch ([5]), edition 2 ([6]), the probes ([8]), a
--- correction on top ([10]), edition 3 ([11]) and edition 4 ([12]).
+-- document 02 the next candidate ([1]), the divisor ([2]), a page ([3]), the places ([4]), the bytes of a fetch ([5]), edition 2 ([6]), the
+-- probes ([8]), the judge ([9]), a correction on top ([10]), edition 3 ([11]), edition 4 ([12]) and the set on disk ([14]).
 -- (It is the first of these files to be checked, so that a slip in a definition shows as the case that it breaks.) Assumes nothing.
 use Rattle.format.proofs.Starred.{Starred, starred}
 use Rattle.format.proofs.Pins.{WriterCases, writer-cases, DivisorCases, divisor-cases, HeaderCases, header-cases}

@@ -1,4 +1,4 @@
--- AllCases.antt has every computed case about the definitions. Never.antt and RankBytes.antt are the two theorems that stand here, since an edit of a
+-- AllCases.antt has every computed case about the definitions. Only.antt and RankBytes.antt are the two theorems that stand here, since an edit of a
 -- definition must break them (document 02, [7]). All else that is proved of the definitions stands in crate laws.
 pub mod AllCases
 pub mod Computing
@@ -16,5 +16,5 @@ pub mod PinsPage
 pub mod PinsLucene
 pub mod PinsJudge
 pub mod PinsRuns
-pub mod Never
+pub mod Only
 pub mod RankBytes

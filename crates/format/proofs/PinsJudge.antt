@@ -6,11 +6,11 @@ use Rattle.format.specs.Bytes.{bytesOf}
 use Rattle.format.specs.Ids.{blockBytes}
 use Rattle.format.specs.Orders.{Order, lowByte, highByte, bytesIn, fixedAt, longsIn, blockDataIn, blockIn, endIn, idSectionIn}
 use Rattle.format.specs.Judge.{cutOff, blockOrder, placeOrder, onesUnlike, rankWrong, endWrong, jumpWrong, leftOver}
-use Rattle.format.specs.Judge.{ranksFrom, placesOk, onesOk, ranksOk, firstFailed, testsAt, judgeSection}
+use Rattle.format.specs.Judge.{ranksFrom, placesOk, onesOk, ranksOk, firstFailed, testsAt, Verdict, accepted, faulty, judgeSection}
 use Rattle.format.proofs.Computing.{computing}
 
 -- the same in either order
-abbrev pub Both : (Order → List ℕ) → ℕ → ℕ → Outcome ℕ → Type 0
+abbrev pub Both : (Order → List ℕ) → ℕ → ℕ → Outcome Verdict → Type 0
 Both s p j r = (judgeSection lowByte p j (s lowByte) ≡ r) × (judgeSection highByte p j (s highByte) ≡ r)
 
 -- a section of sparse blocks without jump entries is shorts: here a block of ids 0, 2, 7, and what follows it
@@ -30,36 +30,36 @@ pub record JudgeCases : Type 0 where
       ≡ 0 ∷ 1 ∷ 0 ∷ 0 ∷ 0 ∷ 0 ∷ 0x7f ∷ 0xff ∷ 0 ∷ 0 ∷ 0xff ∷ 0xff
       ∷ 0 ∷ 0 ∷ 0 ∷ 0 ∷ 0 ∷ 0 ∷ 0 ∷ 0 ∷ 0 ∷ 0 ∷ 0 ∷ 0 ∷ 0 ∷ 0 ∷ 0 ∷ 0 ∷ 0 ∷ 0 ∷ 0 ∷ 1 ∷ 0 ∷ 0 ∷ 0 ∷ 6 ∷ []
   -- accepted
-  pub taken : Both (λ o. three o (32767 ∷ 0 ∷ 65535 ∷ [])) 9 0 (done 3)
-  pub taken-later : Both (λ o. later o 0) 0 3 (done 1)
-  pub taken-empty : Both (λ o. endIn o ++ (0 ∷ 0 ∷ 0 ∷ 0 ∷ 0 ∷ 0 ∷ 0 ∷ 0 ∷ [])) 9 1 (done 0)
+  pub taken : Both (λ o. three o (32767 ∷ 0 ∷ 65535 ∷ [])) 9 0 (done (accepted 3))
+  pub taken-later : Both (λ o. later o 0) 0 3 (done (accepted 1))
+  pub taken-empty : Both (λ o. endIn o ++ (0 ∷ 0 ∷ 0 ∷ 0 ∷ 0 ∷ 0 ∷ 0 ∷ 0 ∷ [])) 9 1 (done (accepted 0))
   -- in the other order: a count of 513, cut off
-  pub other-order : judgeSection lowByte 9 0 (three highByte (32767 ∷ 0 ∷ 65535 ∷ [])) ≡ refused cutOff 0
+  pub other-order : judgeSection lowByte 9 0 (three highByte (32767 ∷ 0 ∷ 65535 ∷ [])) ≡ done (faulty cutOff 0)
   -- the limits, before any byte
   pub power-six : Both (λ o. []) 6 0 (refused HEADER 0)
   pub power-sixteen : Both (λ o. []) 16 0 (refused HEADER 0)
   pub entries-many : Both (λ o. []) 9 32768 (refused HEADER 0)
   -- cut off: nothing there; no whole head; an end block; data, before the number is looked at
-  pub no-bytes : Both (λ o. []) 9 32767 (refused cutOff 0)
-  pub head-cut : Both (λ o. three o (32767 ∷ [])) 9 0 (refused cutOff 10)
-  pub end-cut : Both (λ o. three o (32767 ∷ 0 ∷ [])) 9 0 (refused cutOff 10)
-  pub data-cut : Both (λ o. three o (0 ∷ 1 ∷ 5 ∷ [])) 9 0 (refused cutOff 10)
+  pub no-bytes : Both (λ o. []) 9 32767 (done (faulty cutOff 0))
+  pub head-cut : Both (λ o. three o (32767 ∷ [])) 9 0 (done (faulty cutOff 10))
+  pub end-cut : Both (λ o. three o (32767 ∷ 0 ∷ [])) 9 0 (done (faulty cutOff 10))
+  pub data-cut : Both (λ o. three o (0 ∷ 1 ∷ 5 ∷ [])) 9 0 (done (faulty cutOff 10))
   -- block order: the same number again; 32766; above 32767; before the places are looked at
-  pub again : Both (λ o. three o (0 ∷ 0 ∷ 1 ∷ [])) 9 0 (refused blockOrder 10)
-  pub above-ids : Both (λ o. three o (32766 ∷ 0 ∷ 1 ∷ [])) 9 0 (refused blockOrder 10)
-  pub above-end : Both (λ o. three o (32768 ∷ 0 ∷ 1 ∷ [])) 9 0 (refused blockOrder 10)
-  pub order-first : Both (λ o. three o (0 ∷ 1 ∷ 5 ∷ 5 ∷ [])) 9 0 (refused blockOrder 10)
+  pub again : Both (λ o. three o (0 ∷ 0 ∷ 1 ∷ [])) 9 0 (done (faulty blockOrder 10))
+  pub above-ids : Both (λ o. three o (32766 ∷ 0 ∷ 1 ∷ [])) 9 0 (done (faulty blockOrder 10))
+  pub above-end : Both (λ o. three o (32768 ∷ 0 ∷ 1 ∷ [])) 9 0 (done (faulty blockOrder 10))
+  pub order-first : Both (λ o. three o (0 ∷ 1 ∷ 5 ∷ 5 ∷ [])) 9 0 (done (faulty blockOrder 10))
   -- place order
-  pub places : Both (λ o. three o (1 ∷ 1 ∷ 5 ∷ 5 ∷ [])) 9 0 (refused placeOrder 10)
+  pub places : Both (λ o. three o (1 ∷ 1 ∷ 5 ∷ 5 ∷ [])) 9 0 (done (faulty placeOrder 10))
   -- the end block: its count, its place
-  pub end-count : Both (λ o. three o (32767 ∷ 1 ∷ 65535 ∷ [])) 9 0 (refused endWrong 10)
-  pub end-place : Both (λ o. three o (32767 ∷ 0 ∷ 65534 ∷ [])) 9 0 (refused endWrong 10)
+  pub end-count : Both (λ o. three o (32767 ∷ 1 ∷ 65535 ∷ [])) 9 0 (done (faulty endWrong 10))
+  pub end-place : Both (λ o. three o (32767 ∷ 0 ∷ 65534 ∷ [])) 9 0 (done (faulty endWrong 10))
   -- jump entries: another count; the second is wrong; one that is cut
-  pub entry-count : Both (λ o. three o (32767 ∷ 0 ∷ 65535 ∷ [])) 9 1 (refused jumpWrong 16)
-  pub entry-wrong : Both (λ o. later o 1) 0 3 (refused jumpWrong 20)
-  pub entry-cut : Both (λ o. endIn o ++ (0 ∷ 0 ∷ 0 ∷ 0 ∷ 0 ∷ 0 ∷ 0 ∷ [])) 9 1 (refused jumpWrong 6)
+  pub entry-count : Both (λ o. three o (32767 ∷ 0 ∷ 65535 ∷ [])) 9 1 (done (faulty jumpWrong 16))
+  pub entry-wrong : Both (λ o. later o 1) 0 3 (done (faulty jumpWrong 20))
+  pub entry-cut : Both (λ o. endIn o ++ (0 ∷ 0 ∷ 0 ∷ 0 ∷ 0 ∷ 0 ∷ 0 ∷ [])) 9 1 (done (faulty jumpWrong 6))
   -- bytes left over, of which the first is named
-  pub more-bytes : Both (λ o. three o (32767 ∷ 0 ∷ 65535 ∷ 5 ∷ [])) 9 0 (refused leftOver 16)
+  pub more-bytes : Both (λ o. three o (32767 ∷ 0 ∷ 65535 ∷ 5 ∷ [])) 9 0 (done (faulty leftOver 16))
 
 pub judge-cases : JudgeCases
 unfolding computing idSectionIn longsIn blockDataIn blockIn three later

@@ -5,7 +5,7 @@ use Rattle.format.specs.Refusals.{Outcome, done, refused, andThen, SHORT
 use Rattle.format.specs.Bytes.{low}
 use Rattle.format.specs.Editions.{plain, runs, editions, codec}
 use Rattle.format.specs.Column.{column}
-use Rattle.format.specs.ValueRuns.{Summary, runCount}
+use Rattle.format.specs.ValueRuns.{Summary, runCount, runSection}
 use Rattle.format.specs.Opening.{openColumn}
 use Rattle.format.specs.Check.{check, reading}
 use Rattle.format.specs.LookUp.{found, absent, lookUp}
@@ -47,6 +47,10 @@ pub record RunCases : Type 0 where
   -- the smallest and the greatest value together
   pub widest : codec runs .section (lowest ∷ highest ∷ [])
       ≡ (replicate 7 0 ++ (0x80 ∷ [])) ++ ((replicate 7 0xFF ++ (0x7F ∷ [])) ++ (replicate 8 0 ++ (0x01 ∷ 0x40 ∷ [])))
+  -- runs of one g, written each with its own smallest value and least width, on the first byte after the run before: stored 3, 1, 0 at width 2; 0, 3, 7 at
+  -- width 3; one value at width 0, which has no byte (runs of 16384, and any number of them, are `run-stands` in crate laws)
+  pub runs-written : runSection 5 ((pos 150 ∷ pos 140 ∷ pos 135 ∷ []) ∷ (pos 7 ∷ pos 22 ∷ pos 42 ∷ []) ∷ (pos 9 ∷ []) ∷ [])
+      ≡ entry 135 150 0 2 ++ (entry 7 42 1 3 ++ (entry 9 9 3 0 ++ (0xD0 ∷ 0x0F ∷ 0x80 ∷ [])))
   -- runs of 16384
   pub no-run : runCount 0 ≡ 0
   pub one-run : runCount 16384 ≡ 1

@@ -132,9 +132,23 @@ judgeRest o es j s e =
 
 -- ---- the section
 
+-- inside, a reason stands where other calls have a refusal: the first one decides
 unfoldable pub judge : Order → ℕ → ℕ → List ℕ → Outcome ℕ
 judge o p j s = andThen (judgeFrom (suc (length s)) o p s 0 0 0) (λ e. judgeRest o (notTwo (jumpsIn o p s)) j s e)
 
--- an entry count or power outside document 01's limits is HEADER
-unfoldable pub judgeSection : Order → ℕ → ℕ → List ℕ → Outcome ℕ
-judgeSection o p j s = need (powerOk p && leb j maxJumps) HEADER 0 (judge o p j s)
+-- what the judge finds: "accepted with the id count", or one reason and its place, which is no refusal
+pub data Verdict : Type 0 where
+  accepted : ℕ → Verdict
+  faulty : ℕ → ℕ → Verdict
+
+abbrev pub asVerdict : Outcome ℕ → Verdict
+asVerdict (done n) = accepted n
+asVerdict (refused why at) = faulty why at
+
+-- document 01's limits
+abbrev pub limitsOk : ℕ → ℕ → Bool
+limitsOk p j = powerOk p && leb j maxJumps
+
+-- "An entry count or power outside 01's limits is HEADER", the one refusal
+unfoldable pub judgeSection : Order → ℕ → ℕ → List ℕ → Outcome Verdict
+judgeSection o p j s = need (limitsOk p j) HEADER 0 (done (asVerdict (judge o p j s)))

@@ -2,7 +2,7 @@
 pub use Prim.Native.Nat.{_%_, _*_, _+_, _-_, _/_, _<_, _^_, _∣_, _≤_, max, min, suc, suc-le-suc, zero, zero-le, ℕ}
 pub use mathlib.Core.Bool.{Bool, _&&_, _||_, and-assoc, and-false, and-true, cond, false, not, or-assoc, or-false, or-true, true}
 pub use mathlib.Core.List.{List, [], _++_, _∷_, append-assoc, append-nil, map, reverse, reverse-cons, reverse-reverse}
-pub use mathlib.Core.Logic.{_⊎_, inl, inr, ⊎-elim}
+pub use mathlib.Core.Logic.{_↔_, _⊎_, inl, inr, ⊎-elim}
 unfoldable pub use mathlib.Core.Option.{bind, bind-eq-some-iff}
 pub use mathlib.Core.Option.{Option, Option·map, Option·some-injective, map-eq-some-iff, none, some}
 pub use mathlib.Core.Path.{_∙_, _≡_, ap, ap₂, refl, subst, sym}

@@ -32,5 +32,10 @@ pub mod SetCalls
 pub mod Page
 pub mod Orders
 pub mod Judge
+pub mod Lists
+pub mod Faults
+pub mod JudgeFaults
+pub mod SetFaults
+pub mod Says
 pub mod Runs
 pub mod Stores

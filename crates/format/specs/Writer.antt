@@ -1,5 +1,5 @@
--- The writer: refusals 1, 9, 2 to 4 and 6 in order, each over the whole input before the next (document 01, "Refusal numbers"; document 02,
--- [6], put 9 in, and [7] took 5 out). Assumes nothing.
+-- The writer: refusals 1, 9, 2 to 4, 17 and 6 in order, each over the whole input before the next (document 01, "Refusal numbers"; document 02,
+-- [6], put 9 in, [7] took 5 out, and [12] put 17 in, for a writer that is handed a plan). Assumes nothing.
 use Rattle.format.specs.Kit.{ℕ, suc, Bool, cond, List, [], _∷_, _++_, Option, none, some, length, drop, leb, ltb, eqb, ℤ}
 use Rattle.format.specs.Limits.{maxId, powerOk}
 use Rattle.format.specs.Refusals.{Outcome, done, refused, andThen, need, given, needNone, LENGTHS, POWER, ORDER, RANGE, ROOM, EDITION, PLAN}

@@ -10,6 +10,7 @@ use Rattle.format.specs.Pairs.{Below}
 use Rattle.format.specs.Runs.{totalBytes, AllFine}
 use Rattle.format.specs.Orders.{Order, blockIn, entryIn}
 use Rattle.format.specs.Judge.{jumpWrong, leftOver, firstFailed, testsAt, unlessFault, Ended, judgeFrom, jumpsIn, judgeEntries, judgeRest, judge}
+use Rattle.format.specs.JudgeFaults.{Before, Closed, Why, block, count, entry, left}
 use Rattle.laws.proofs.Jumps.{asc-blocks}
 use Rattle.laws.proofs.RoundTrip.{runs-le}
 use Rattle.laws.proofs.Runs.{ids-runs, fine-runs}
@@ -17,22 +18,8 @@ use Rattle.laws.proofs.Section.{length-bytesOf}
 use Rattle.laws.proofs.Tests.{stopped}
 use Rattle.judge.proofs.Standing.{entry-eight, length-blocksIn}
 use Rattle.judge.proofs.Built.{Comes, comes, went-all}
-use Rattle.judge.proofs.Entries.{Missed, missed, entries-all, entries-front, entries-end, entry-missed}
-use Rattle.judge.proofs.Judged.{Before, Closed, before, closed, long, entries-are, rest-of}
-
--- why a section is faulty with a reason at a place
-pub data Why (o : Order) (p j : ℕ) (s : List ℕ) (why to : ℕ) : Type 0 where
-  -- a block: those before it are sound, and its first test that fails has this reason, so that the tests before that one hold
-  block : (n next : ℕ) → Before o p s to n next → firstFailed (testsAt o p s to next) ≡ some why → Why o p j s why to
-  -- another entry count than the list's: the place is the entries' beginning
-  count : (at n next : ℕ) (c : Closed o p s at n next) → why ≡ jumpWrong → to ≡ at + 6 → (j ≡ length (jumps p (c .before .ids)) → ⊥)
-      → Why o p j s why to
-  -- the first entry that is wrong or cut
-  entry : (at n next : ℕ) (c : Closed o p s at n next) → why ≡ jumpWrong → j ≡ length (jumps p (c .before .ids))
-      → Missed o s (jumps p (c .before .ids)) (at + 6) to → Why o p j s why to
-  -- all is there, and more: the first byte after the entries
-  left : (at n next : ℕ) (c : Closed o p s at n next) → why ≡ leftOver → j ≡ length (jumps p (c .before .ids))
-      → drop (at + 6) s ≡ bytesOf (entryIn o) (jumps p (c .before .ids)) ++ drop to s → to ≡ at + 6 + 8 * j → to < length s → Why o p j s why to
+use Rattle.judge.proofs.Entries.{missed, entries-all, entries-front, entries-end, entry-missed}
+use Rattle.judge.proofs.Judged.{before, closed, long, entries-are, rest-of}
 
 -- a test that stopped a chain, or what came after it
 need-or : {A X : Type 0} (t : Bool) (k v : ℕ) (next : Outcome A) (why w : ℕ) → need t k v next ≡ refused why w

@@ -1,33 +1,14 @@
 -- A header number that broke (document 01, refusals 7 and 8; document 02, [4]): the byte that decides is the first one from which no number
 -- below 2^64 in its minimal form goes on. Assumes nothing.
 use Rattle.format.specs.Kit.{_≡_, refl, sym, ap, _∙_, _⊎_, inl, inr, List, [], _∷_, _++_, append-nil, append-assoc, ℕ, zero, suc, _+_, _-_, _*_}
-use Rattle.format.specs.Kit.{_/_, _%_, _^_, _<_, _≤_, arith, length, length-append, drop-of-length-le, ne-eqb, eq-eqb, le-ltb, lt-ltb}
+use Rattle.format.specs.Kit.{_/_, _%_, _<_, _≤_, arith, length, length-append, drop-of-length-le, ne-eqb, eq-eqb, le-ltb, lt-ltb}
 use Rattle.format.specs.HeaderNumbers.{groups, number, Got, got, short, bad, above, readGroups, readNumber}
 use Rattle.format.specs.Pairs.{Below}
+use Rattle.format.specs.Faults.{Begun, Fault, Decides, BadBytes}
 use Rattle.laws.proofs.Cases.{below-or, equal-or}
 use Rattle.laws.proofs.Digits.{below-append, below-front}
 use Rattle.laws.proofs.Header.{groups-last, groups-more, read-number}
 use Rattle.laws.proofs.Minimal.{number-read}
-
--- ---- what is said of the bytes
-
--- the bytes of a number below 2^64, in its minimal form, begin with these and go on
-abbrev pub Begun : List ℕ → Type 0
-Begun bs = (v : ℕ) × (b : ℕ) × (more : List ℕ) × (v < 2 ^ 64) × (number v ≡ bs ++ (b ∷ more))
-
--- the bytes of no such number begin with these: whatever does is not minimal, or is 2^64 or more
-abbrev pub NoNumber : List ℕ → Type 0
-NoNumber bs = (v : ℕ) (more : List ℕ) → v < 2 ^ 64 → number v ≡ bs ++ more → ⊥
-
--- the zero that ends a number of several bytes, or the tenth byte that is not 1
-abbrev pub Fault : List ℕ → ℕ → Type 0
-Fault begun byte = ((1 ≤ length begun) × (byte ≡ 0)) ⊎ ((length begun ≡ 9) × (byte ≡ 1 → ⊥))
-
--- a byte that decides: after the bytes before it a number may still go on, after this one none can
-pub record Decides (begun : List ℕ) (byte : ℕ) : Type 0 where
-  pub not-before : Begun begun
-  pub here : NoNumber (begun ++ (byte ∷ []))
-  pub fault : Fault begun byte
 
 -- ---- bytes that go on: the top bit is set
 
@@ -226,14 +207,6 @@ decides bs b u g h t =
           omega arith;
       fault = t;
     }
-
-pub record BadBytes (bs : List ℕ) (k : ℕ) : Type 0 where
-  pub before : List ℕ
-  pub byte : ℕ
-  pub after : List ℕ
-  pub bytes-are : bs ≡ before ++ (byte ∷ after)
-  pub place : length before ≡ k
-  pub decides : Decides before byte
 
 -- a number that is read as bad at byte k
 pub bad-bytes : (bs : List ℕ) (k : ℕ) → Below 256 bs → readNumber bs ≡ bad k → BadBytes bs k

@@ -16,6 +16,7 @@ use Rattle.format.specs.Column.{column, headOf}
 use Rattle.format.specs.Writer.{writeIf, writeAs, write}
 use Rattle.format.specs.Opening.{Opened, openColumn}
 use Rattle.format.specs.Check.{accepted, check, reading}
+use Rattle.format.specs.Lists.{ColumnOf}
 use Rattle.format.specs.LookUp.{found, absent, lookUp, lookUpIn}
 use Rattle.format.specs.Walk.{walk, wordless, listed, words, strideWords, listAnswer}
 use Rattle.laws.proofs.Lawful.{Lawful, LawfulReader}
@@ -65,17 +66,6 @@ module _ (ed : Edition) (law : Lawful (codec ed)) (p : ℕ) (ids : List ℕ) (vs
   read-back = RoundTrip.read ed law p ids vs ok
 
 -- ---- demand 2: accepted if and only if they are the column of a pair list, and of one only
-
--- the bytes are the column of a list of n pairs, in one of the editions that are known
-pub record ColumnOf (known : List Edition) (bytes : List ℕ) (n : ℕ) : Type 0 where
-  pub edition : Edition
-  pub knows : Knows known edition
-  pub power : ℕ
-  pub ids : List ℕ
-  pub values : List ℤ
-  pub valid : Valid edition power ids values
-  pub same-bytes : column edition power ids values ≡ bytes
-  pub count : length ids ≡ n
 
 -- the bytes are the column of these pairs, and both buffers have room for them
 pub record ReadFrom (known : List Edition) (bytes : List ℕ) (idRoom valueRoom : ℕ) (q : Pairs) : Type 0 where

@@ -3,7 +3,7 @@
 use Rattle.format.specs.Kit.{_≡_, refl, sym, ap, _∙_, subst, true, false, and-false, List, [], _∷_, Option, none, some, ℕ, zero, suc, _+_, _-_, _*_, _<_}
 use Rattle.format.specs.Kit.{min, add-zero, mul-suc, arith, T, eqb, leb→le, length, getD, take, drop, length-take, length-drop, drop-drop, getD-take}
 use Rattle.format.specs.Kit.{getD-drop, drop-of-length-le, eqb-true, ne-eqb, lt-ltb, lt-leb, leb-false, ltb-true, ℤ, pos, negsuc, leZ, ltZ}
-use Rattle.format.specs.Refusals.{Outcome, done, refused, andThen, need, given, EDITION, HEADER, LENGTH, BROKEN}
+use Rattle.format.specs.Refusals.{Outcome, done, refused, andThen, need, given, EDITION, HEADER, LENGTH}
 use Rattle.format.specs.HeaderNumbers.{numberAt, numbersAt}
 use Rattle.format.specs.Values.{smallest, greatest, divisor}
 use Rattle.format.specs.Pairs.{Pairs, Each}
@@ -15,8 +15,7 @@ use Rattle.format.specs.Opening.{Opened, headFrom, headOk, lengthOk, openColumn
 use Rattle.format.specs.Check.{accepted}
 use Rattle.format.specs.FirstBetween.{between, skipped, scanFrom, runsFrom, betweenSteps, firstBetween, firstBetweenIn, firstIn}
 use Rattle.laws.proofs.Cases.{true-or}
-use Rattle.laws.proofs.Tests.{result, needed, passed, given-some, stopped}
-use Rattle.format.proofs.Never.{never, of-between}
+use Rattle.laws.proofs.Tests.{result, needed, passed, given-some}
 use Rattle.laws.proofs.Values.{each-map, smallest-each, greatest-each}
 use Rattle.laws.proofs.Editions.{found-number, one-number, lawful, lawful-reader, runs-section}
 use Rattle.laws.proofs.InRuns.{its-run, run-here}
@@ -262,17 +261,3 @@ pub other-between : (known : List Edition) (bytes : List ℕ) (c : Opened) → o
 unfolding firstBetween andThen editionIn
 other-between known bytes c o e a b =
     rw (opens-not known bytes c o (runs ∷ []) (rw (ne-eqb (numberOf (c .head .edition)) (numberOf runs) (λ k. e (one-number _ _ k)))))
-
--- ---- what 7 and 8 carry (document 02, [4]): the question passes on what opening gives, and has neither from elsewhere
-
-module _ (bytes : List ℕ) (a b : ℤ) (why w : ℕ) where
-  pub between-says : openColumn (runs ∷ []) bytes ≡ refused why w → firstBetween bytes a b ≡ refused why w
-  unfolding firstBetween andThen
-  between-says e = rw e
-
-  pub between-from : why < EDITION → firstBetween bytes a b ≡ refused why w → openColumn (runs ∷ []) bytes ≡ refused why w
-  unfolding firstBetween
-  between-from l e =
-      stopped (openColumn (runs ∷ []) bytes) _ why w e
-      (λ f. f)
-      (λ c f h. absurd (never why _ w (of-between why (ne-eqb BROKEN why (λ z. omega arith)) bytes c a b) h))

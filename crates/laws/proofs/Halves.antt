@@ -33,7 +33,7 @@ pub record NumbersAt (k : ℕ) (bytes : List ℕ) (at : ℕ) (r : List ℕ × �
   pub many : length (r .0) ≡ k
   pub small : Below (2 ^ 64) (r .0)
 
-numbers-are : (k : ℕ) (bytes : List ℕ) (at : ℕ) (r : List ℕ × ℕ) → Below 256 bytes → numbersAt k bytes at ≡ done r → NumbersAt k bytes at r
+pub numbers-are : (k : ℕ) (bytes : List ℕ) (at : ℕ) (r : List ℕ × ℕ) → Below 256 bytes → numbersAt k bytes at ≡ done r → NumbersAt k bytes at r
 unfolding numbersAt bytesOf
 numbers-are zero bytes at r u d =
     subst (NumbersAt zero bytes at) (ap (result ([], 0)) d) (record { there = refl; many = refl; small = tt })
@@ -51,7 +51,7 @@ numbers-are (suc k) bytes at r u d =
       small = (n .small, ih .small);
     })
 
-head-back : (ed : Edition) (ns : List ℕ) → length ns ≡ 8 → tail (headFrom ed ns) ≡ ns
+pub head-back : (ed : Edition) (ns : List ℕ) → length ns ≡ 8 → tail (headFrom ed ns) ≡ ns
 unfolding headFrom
 head-back ed (a ∷ b ∷ c ∷ d ∷ e ∷ f ∷ g ∷ i ∷ []) q = refl
 head-back ed [] q = absurd (omega arith)

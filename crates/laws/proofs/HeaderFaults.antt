@@ -1,74 +1,31 @@
--- Where the header broke (document 02, [4]). NUMBER comes with a place, SHORT with the byte count: what these say of the bytes, exactly, and
--- that each call that reads a header passes them on. Assumes nothing.
-use Rattle.format.specs.Kit.{_≡_, refl, sym, ap, _∙_, List, [], _∷_, _++_, append-assoc, some, ℕ, zero, suc, _+_, _^_, _<_, _≤_, arith, length}
-use Rattle.format.specs.Kit.{length-append, drop, drop-drop, drop-append-seam, le-leb, ne-eqb}
-use Rattle.format.specs.Limits.{maxId}
-use Rattle.format.specs.Refusals.{refused, andThen, need, given, SHORT, NUMBER, EDITION, HEADER, LENGTH, BUFFER, DAMAGED, ID, BROKEN, BACK}
+-- Where the header broke (document 02, [4]). NUMBER comes with a place, SHORT with the byte count: what these say of the bytes, exactly. That each call that
+-- reads a header passes them on is PassedOn.antt. Assumes nothing.
+use Rattle.format.specs.Kit.{_≡_, _↔_, refl, sym, ap, _∙_, List, [], _∷_, _++_, append-assoc, ℕ, zero, suc, _+_, _^_, _<_, arith, length}
+use Rattle.format.specs.Kit.{length-append, drop, drop-drop, drop-append-seam}
+use Rattle.format.specs.Refusals.{refused, andThen, given, SHORT, NUMBER, EDITION, HEADER, LENGTH}
 use Rattle.format.specs.Bytes.{bytesOf}
 use Rattle.format.specs.HeaderNumbers.{number, Got, got, short, bad, readNumber, gotAt, numberAt, numbersAt}
 use Rattle.format.specs.Pairs.{Below}
 use Rattle.format.specs.Editions.{Edition, editionIn}
 use Rattle.format.specs.Opening.{openColumn}
-use Rattle.format.specs.Check.{check, reading}
-use Rattle.format.specs.LookUp.{lookUp}
-use Rattle.format.specs.Next.{next}
+use Rattle.format.specs.Faults.{Begun, BadBytes, FirstKnown, Whole, BrokenAt, EndsAt}
 use Rattle.laws.proofs.Digits.{below-drop}
 use Rattle.laws.proofs.Header.{number-at}
 use Rattle.laws.proofs.Minimal.{NumberAt, number-is}
-use Rattle.laws.proofs.BadNumber.{Begun, Decides, BadBytes, bad-bytes, bad-read, short-bytes, short-read}
-use Rattle.format.proofs.Never.{Other, never, at-done, at-need, at-then, of-accepted, of-steps, of-next}
+use Rattle.laws.proofs.BadNumber.{bad-bytes, bad-read, short-bytes, short-read}
 use Rattle.laws.proofs.Tests.{given-some, stopped, need-stopped, given-stopped}
-
--- ---- what is said of the bytes
-
--- the edition, if it was read, is known
-abbrev pub FirstKnown : List Edition → List ℕ → Type 0
-FirstKnown known [] = Unit {0}
-FirstKnown known (k ∷ ns) = (ed : Edition) × (editionIn known k ≡ some ed)
-
--- whole header numbers, fewer than nine
-pub record Whole (known : List Edition) (numbers : List ℕ) : Type 0 where
-  pub fewer : length numbers < 9
-  pub small : Below (2 ^ 64) numbers
-  pub edition : FirstKnown known numbers
-
--- the header broke at a place
-pub record BrokenAt (known : List Edition) (bytes : List ℕ) (place : ℕ) : Type 0 where
-  -- the bytes are header numbers, the bytes of one more, the byte that decides it, and what follows
-  pub numbers : List ℕ
-  pub before : List ℕ
-  pub byte : ℕ
-  pub after : List ℕ
-  pub bytes-are : bytes ≡ bytesOf number numbers ++ (before ++ (byte ∷ after))
-  -- all bytes before that number are whole numbers
-  pub whole : Whole known numbers
-  -- the byte makes it not minimal or 2^64 or more, and no byte before it does
-  pub decides : Decides before byte
-  -- the place is that byte's, and is below the byte count
-  pub place-is : place ≡ length (bytesOf number numbers) + length before
-  pub below : place < length bytes
-
--- the bytes, so many of them, end within a header number
-pub record EndsAt (known : List Edition) (bytes : List ℕ) (count : ℕ) : Type 0 where
-  -- they are whole header numbers and the beginning of one more, which may be no byte
-  pub numbers : List ℕ
-  pub before : List ℕ
-  pub bytes-are : bytes ≡ bytesOf number numbers ++ before
-  pub whole : Whole known numbers
-  pub begun : Begun before
-  pub count-is : count ≡ length bytes
 
 -- ---- the number at which reading stops
 
 -- of k numbers from a place on, some are whole, and the next one, at `next`, is refused
-record Stopped (k : ℕ) (bytes : List ℕ) (at why w : ℕ) : Type 0 where
-  numbers : List ℕ
-  next : ℕ
-  few : length numbers < k
-  small : Below (2 ^ 64) numbers
-  there : drop at bytes ≡ bytesOf number numbers ++ drop next bytes
-  next-is : next ≡ at + length (bytesOf number numbers)
-  stops : numberAt bytes next ≡ refused why w
+pub record Stopped (k : ℕ) (bytes : List ℕ) (at why w : ℕ) : Type 0 where
+  pub numbers : List ℕ
+  pub next : ℕ
+  pub few : length numbers < k
+  pub small : Below (2 ^ 64) numbers
+  pub there : drop at bytes ≡ bytesOf number numbers ++ drop next bytes
+  pub next-is : next ≡ at + length (bytesOf number numbers)
+  pub stops : numberAt bytes next ≡ refused why w
 
 stopped-first : (k : ℕ) (bytes : List ℕ) (at why w : ℕ) → numberAt bytes at ≡ refused why w → Stopped (suc k) bytes at why w
 unfolding bytesOf
@@ -89,7 +46,7 @@ stopped-later k bytes at why w r n s =
       stops = s .stops;
     }
 
-numbers-stop : (k : ℕ) (bytes : List ℕ) (at why w : ℕ) → Below 256 bytes → numbersAt k bytes at ≡ refused why w → Stopped k bytes at why w
+pub numbers-stop : (k : ℕ) (bytes : List ℕ) (at why w : ℕ) → Below 256 bytes → numbersAt k bytes at ≡ refused why w → Stopped k bytes at why w
 unfolding numbersAt
 numbers-stop zero bytes at why w u e = absurd (let z : _≡_ {A = ℕ} 0 1 = cc in omega arith)
 numbers-stop (suc k) bytes at why w u e =
@@ -181,10 +138,33 @@ number-short bytes at w u = go (readNumber (drop at bytes)) refl
     go short e d = (short-bytes (drop at bytes) (below-drop 256 at bytes u) e, cc)
     go (bad k) e d = absurd (let z : SHORT ≡ NUMBER = cc in omega arith)
 
+-- there is no third
+pub none-of : {X : Type 0} (bytes : List ℕ) (at why w : ℕ) → numberAt bytes at ≡ refused why w → (why ≡ SHORT → X) → (why ≡ NUMBER → X) → X
+unfolding numberAt gotAt
+none-of bytes at why w e f g = go (readNumber (drop at bytes)) e f g
+  where
+    go : {X : Type 0} (r : Got) → gotAt bytes at r ≡ refused why w → (why ≡ SHORT → X) → (why ≡ NUMBER → X) → X
+    go (got v k) e f g = absurd (let z : _≡_ {A = ℕ} 0 1 = cc in omega arith)
+    go short e f g = f (cc)
+    go (bad k) e f g = g (cc)
+
+-- and the other way round
+module _ (bytes : List ℕ) (w : ℕ) where
+  pub bad-number : (at k : ℕ) → BadBytes (drop at bytes) k → at + k ≡ w → numberAt bytes at ≡ refused NUMBER w
+  unfolding numberAt gotAt
+  bad-number at k b e =
+      let r : readNumber (drop at bytes) ≡ bad (length (b .before)) = ap readNumber (b .bytes-are) ∙ bad-read (b .before) (b .byte) (b .after) (b .decides) in
+      let q : at + length (b .before) ≡ w = omega (arith, b .place) in
+      rw (r, q) refl
+
+  pub short-number : (at : ℕ) → Begun (drop at bytes) → w ≡ length bytes → numberAt bytes at ≡ refused SHORT w
+  unfolding numberAt gotAt
+  short-number at b e = rw (short-read (drop at bytes) b, e) refl
+
 -- ---- NUMBER with a place, SHORT with the byte count: exactly these
 
 module _ (known : List Edition) (bytes : List ℕ) (w : ℕ) where
-  pub number-fault : Below 256 bytes → openColumn known bytes ≡ refused NUMBER w → BrokenAt known bytes w
+  number-fault : Below 256 bytes → openColumn known bytes ≡ refused NUMBER w → BrokenAt known bytes w
   number-fault u e =
       let o = open-stops known bytes NUMBER w u (omega arith) e in
       let s : Stopped 9 bytes 0 NUMBER w = o .0 in
@@ -207,7 +187,7 @@ module _ (known : List Edition) (bytes : List ℕ) (w : ℕ) where
         below = omega (arith, place, long, length-append (b .before) (b .byte ∷ b .after));
       }
 
-  pub fault-number : BrokenAt known bytes w → openColumn known bytes ≡ refused NUMBER w
+  fault-number : BrokenAt known bytes w → openColumn known bytes ≡ refused NUMBER w
   unfolding numberAt gotAt
   fault-number b =
       let ns : List ℕ = bytesOf number (b .numbers) in
@@ -216,7 +196,7 @@ module _ (known : List Edition) (bytes : List ℕ) (w : ℕ) where
       let e : numberAt bytes (length ns) ≡ refused NUMBER w = rw (d, bad-read (b .before) (b .byte) (b .after) (b .decides), b .place-is) in
       open-refused known (b .numbers) bytes (length ns) NUMBER w (b .whole) (b .bytes-are ∙ ap (λ (l : List ℕ). ns ++ l) (sym d)) refl e
 
-  pub short-fault : Below 256 bytes → openColumn known bytes ≡ refused SHORT w → EndsAt known bytes w
+  short-fault : Below 256 bytes → openColumn known bytes ≡ refused SHORT w → EndsAt known bytes w
   short-fault u e =
       let o = open-stops known bytes SHORT w u (omega arith) e in
       let s : Stopped 9 bytes 0 SHORT w = o .0 in
@@ -230,7 +210,7 @@ module _ (known : List Edition) (bytes : List ℕ) (w : ℕ) where
         count-is = r .1;
       }
 
-  pub fault-short : EndsAt known bytes w → openColumn known bytes ≡ refused SHORT w
+  fault-short : EndsAt known bytes w → openColumn known bytes ≡ refused SHORT w
   unfolding numberAt gotAt
   fault-short b =
       let ns : List ℕ = bytesOf number (b .numbers) in
@@ -238,66 +218,9 @@ module _ (known : List Edition) (bytes : List ℕ) (w : ℕ) where
       let e : numberAt bytes (length ns) ≡ refused SHORT w = rw (d, short-read (b .before) (b .begun), b .count-is) in
       open-refused known (b .numbers) bytes (length ns) SHORT w (b .whole) (b .bytes-are ∙ ap (λ (l : List ℕ). ns ++ l) (sym d)) refl e
 
--- ---- each call that reads a header passes it on
+  module _ (u : Below 256 bytes) where
+    pub open-number : (openColumn known bytes ≡ refused NUMBER w) ↔ BrokenAt known bytes w
+    open-number = (number-fault u, fault-number)
 
-other-than : (k why : ℕ) → why < EDITION → EDITION < k → Other why k
-other-than k why l h = ne-eqb k why (λ e. omega arith)
-
--- SHORT or NUMBER with this number is what opening gives, and what each call gives
-pub record PassedOn (known : List Edition) (bytes : List ℕ) (why w : ℕ) : Type 0 where
-  pub check-says : check known bytes ≡ refused why w
-  pub reading-says : (idRoom valueRoom : ℕ) → reading known bytes idRoom valueRoom ≡ refused why w
-  pub look-up-says : (id : ℕ) → id ≤ maxId → lookUp known bytes id ≡ refused why w
-  pub next-says : (last t : ℕ) → t ≤ maxId → last ≤ t → next known bytes last t ≡ refused why w
-
-module _ (known : List Edition) (bytes : List ℕ) (why w : ℕ) where
-  pub passed-on : openColumn known bytes ≡ refused why w → PassedOn known bytes why w
-  unfolding check reading lookUp next andThen need
-  passed-on e =
-      record {
-        check-says = rw e;
-        reading-says = λ a b. rw e;
-        look-up-says = λ id h. rw (le-leb id maxId h, e);
-        next-says = λ last t h k. rw (le-leb t maxId h, le-leb last t k, e);
-      }
-
-  -- and no call has SHORT or NUMBER from elsewhere
-  module _ (l : why < EDITION) where
-    pub check-from : check known bytes ≡ refused why w → openColumn known bytes ≡ refused why w
-    unfolding check
-    check-from e =
-        stopped (openColumn known bytes) _ why w e
-        (λ f. f)
-        (λ c f g. absurd (never why _ w (at-then why _ _ (of-accepted why (other-than DAMAGED why l (omega arith)) bytes c) (λ q. at-done why _)) g))
-
-    pub reading-from : (idRoom valueRoom : ℕ) → reading known bytes idRoom valueRoom ≡ refused why w → openColumn known bytes ≡ refused why w
-    unfolding reading
-    reading-from a b e =
-        stopped (openColumn known bytes) _ why w e
-        (λ f. f)
-        (λ c f g.
-        let fits = at-need why _ BUFFER _ _ (other-than BUFFER why l (omega arith)) (of-accepted why (other-than DAMAGED why l (omega arith)) bytes c) in
-        absurd (never why _ w fits g))
-
-    pub look-up-from : (id : ℕ) → lookUp known bytes id ≡ refused why w → openColumn known bytes ≡ refused why w
-    unfolding lookUp
-    look-up-from id e =
-        need-stopped _ ID 0 _ why w e
-        (λ z. absurd (omega (arith, l, z)))
-        (λ d.
-        stopped (openColumn known bytes) _ why w d
-        (λ f. f)
-        (λ c f g. absurd (never why _ w (of-steps why (other-than BROKEN why l (omega arith)) bytes c _ id) g)))
-
-    pub next-from : (last t : ℕ) → next known bytes last t ≡ refused why w → openColumn known bytes ≡ refused why w
-    unfolding next
-    next-from last t e =
-        need-stopped _ ID 0 _ why w e
-        (λ z. absurd (omega (arith, l, z)))
-        (λ d.
-        need-stopped _ BACK 0 _ why w d
-        (λ z. absurd (omega (arith, l, z)))
-        (λ g.
-        stopped (openColumn known bytes) _ why w g
-        (λ f. f)
-        (λ c f h. absurd (never why _ w (of-next why (other-than BROKEN why l (omega arith)) bytes c t) h))))
+    pub open-short : (openColumn known bytes ≡ refused SHORT w) ↔ EndsAt known bytes w
+    open-short = (short-fault u, fault-short)

@@ -15,7 +15,6 @@ use Rattle.format.specs.Layered.{walksAnswer, wordlessIn}
 use Rattle.laws.proofs.Tests.{needed, passed}
 use Rattle.laws.proofs.Open.{sound}
 use Rattle.laws.proofs.Demands.{Holds, opened-look-up}
-use Rattle.laws.proofs.Retired.{look-up-never-5, look-up-in-never-5}
 
 -- ---- what each answer says of the correction's look-up a and the machine column's b, on any bytes
 
@@ -49,16 +48,6 @@ pub opened-layered : (known : List Edition) (m : List ℕ) (x : Opened) (c : Lis
     → openColumn known m ≡ done x → openColumn known c ≡ done y → lookUpLayeredIn m x c y id ≡ lookUpLayered known m c id
 unfolding lookUpLayeredIn lookUpLayered
 opened-layered known m x c y id ex ey = rw (opened-look-up known m x id ex, opened-look-up known c y id ey)
-
--- refusal 5 stays retired (document 02, [7])
-pub layered-never-5 : (known : List Edition) (m c : List ℕ) (id : ℕ) (layer : Layer) (w : ℕ) → lookUpLayered known m c id ≡ refusedBy layer 5 w → ⊥
-layered-never-5 known m c id correction w e = look-up-never-5 known c w id (layered-says known m c id _ e)
-layered-never-5 known m c id machine w e = look-up-never-5 known m w id (layered-says known m c id _ e .2)
-
-pub layered-in-never-5 : (m : List ℕ) (x : Opened) (c : List ℕ) (y : Opened) (id : ℕ) (layer : Layer) (w : ℕ)
-    → lookUpLayeredIn m x c y id ≡ refusedBy layer 5 w → ⊥
-layered-in-never-5 m x c y id correction w e = look-up-in-never-5 c y id w (layered-in-says m x c y id _ e)
-layered-in-never-5 m x c y id machine w e = look-up-in-never-5 m x id w (layered-in-says m x c y id _ e .2)
 
 -- ---- the part
 

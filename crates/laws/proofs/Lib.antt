@@ -1,6 +1,7 @@
 -- What is proved about the definitions: Demands.antt has the demands, Meaning.antt and MeaningValues.antt
 -- the documents' words behind the definitions, Lawful.antt what a codec owes and Editions.antt that each keeps it, Alone.antt what a
--- reader of edition 1 alone says to edition 2; the others lead there.
+-- reader of edition 1 alone says to edition 2; WritersSay.antt, OpeningSays.antt and ReadersSay.antt that each call answers exactly by its table,
+-- PassedOn.antt where a header broke, RefusalNumbers.antt and Retired.antt which numbers a call never gives; the others lead there.
 pub mod Demands
 pub mod Meaning
 pub mod MeaningValues
@@ -39,6 +40,7 @@ pub mod Ascending
 pub mod SameMembers
 pub mod Table
 pub mod Editions
+pub mod RunStands
 pub mod Plans
 pub mod Open
 pub mod RoundTrip
@@ -57,6 +59,12 @@ pub mod Probes
 pub mod Walked
 pub mod Words
 pub mod HeaderFaults
+pub mod PassedOn
+pub mod FirstIndex
+pub mod WritersSay
+pub mod OpeningSays
+pub mod ReadersSay
+pub mod RefusalNumbers
 pub mod InTurn
 pub mod Sequences
 pub mod Paged

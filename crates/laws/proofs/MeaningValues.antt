@@ -2,11 +2,13 @@
 -- divisor of the differences (document 02, [2]), the numbers stored, the least width. Assumes nothing.
 use Rattle.format.specs.Kit.{_≡_, refl, sym, ap, ap₂, _∙_, subst, List, [], _∷_, map, ℕ, suc, _*_, _/_, _^_, _<_, _≤_, _∣_, dvd-zero, one-dvd}
 use Rattle.format.specs.Kit.{dvd-antisymm, mul-zero, mul-one, mul-div-cancel', zero-div, eq-of-mul-eq-mul-left, arith, T, ℤ, pos, natAbs, _+ℤ_}
-use Rattle.format.specs.Kit.{+ℤ-invr, +ℤ-idr, leZ, length, getD, List·getD-map, eq-eqb, ne-eqb}
+use Rattle.format.specs.Kit.{zero-le, +ℤ-invr, +ℤ-idr, leZ, length, getD, List·getD-map, eq-eqb, ne-eqb}
 use Rattle.format.specs.Values.{smallest, greatest, over, spread, gcdFrom, differences, divisor, stored, storedWith, bitsIn, bitLength, width, widthWith}
-use Rattle.format.specs.Pairs.{Each}
+use Rattle.format.specs.Pairs.{Below, Each}
+use Rattle.laws.proofs.Bits.{below-at}
 use Rattle.laws.proofs.Values.{each-map, each-two, smallest-each, smallest-has, most-has, greatest-each, spread-each, over-back}
-use Rattle.laws.proofs.Values.{dvd-between, divides-each, gcd-from-smallest, length-stored, bit-length, bit-length-le}
+use Rattle.laws.proofs.Values.{dvd-between, divides-each, gcd-from-smallest, length-stored, length-stored-with, stored-below, bit-length}
+use Rattle.laws.proofs.Values.{bit-length-le}
 use Rattle.laws.proofs.Gcd.{DividesEach, dvd-gcdFrom, gcdFrom-scaled, each-number}
 use Rattle.laws.proofs.Bounds.{divisor-pos}
 use Rattle.laws.proofs.Scaled.{getD-any}
@@ -89,14 +91,18 @@ divided-by-differences (v ∷ vs) d k t =
 
 -- ---- the stored numbers
 
--- they are exactly (v - min) / g, with no remainder
-pub no-remainder : (vs : List ℤ) → map (λ x. divisor vs * x) (stored vs) ≡ map (over (smallest vs)) vs
-unfolding stored storedWith
-no-remainder vs = go (smallest vs) (divisor vs) vs (divides-each vs)
+-- they are exactly (v - min) / g, with no remainder, by any g that divides the differences: for a run of edition 3 that is the column's (document 02, [11])
+pub no-remainder-by : (g : ℕ) (vs : List ℤ) → Each (λ v. g ∣ over (smallest vs) v) vs → map (λ x. g * x) (storedWith g vs) ≡ map (over (smallest vs)) vs
+unfolding storedWith
+no-remainder-by g vs = go (smallest vs) vs
   where
-    go : (m : ℤ) (g : ℕ) (l : List ℤ) → Each (λ v. g ∣ over m v) l → map (λ x. g * x) (map (λ v. over m v / g) l) ≡ map (over m) l
-    go m g [] t = refl
-    go m g (v ∷ l) t = ap₂ {C = List ℕ} (λ (x : ℕ) (r : List ℕ). x ∷ r) (mul-div-cancel' g (t .0)) (go m g l (t .1))
+    go : (m : ℤ) (l : List ℤ) → Each (λ v. g ∣ over m v) l → map (λ x. g * x) (map (λ v. over m v / g) l) ≡ map (over m) l
+    go m [] t = refl
+    go m (v ∷ l) t = ap₂ {C = List ℕ} (λ (x : ℕ) (r : List ℕ). x ∷ r) (mul-div-cancel' g (t .0)) (go m l (t .1))
+
+pub no-remainder : (vs : List ℤ) → map (λ x. divisor vs * x) (stored vs) ≡ map (over (smallest vs)) vs
+unfolding stored
+no-remainder vs = no-remainder-by (divisor vs) vs (divides-each vs)
 
 stored-gcd : (vs : List ℤ) → (AllEqual vs → ⊥) → gcdFrom 0 (stored vs) ≡ 1
 stored-gcd vs k =
@@ -126,12 +132,28 @@ zero-stored v vs =
           ∙ ap f (a .2) ∙ ap (λ (n : ℕ). n / g) (over-self m) ∙ zero-div g,
     )
 
--- ---- the width: the least w with (max - min) / g < 2 ^ w
+-- ---- the width: the least w with (max - min) / g < 2 ^ w, by the column's own g (`width`), and in a run of edition 3 by the whole column's
 
-pub width-holds : (vs : List ℤ) → spread vs / divisor vs < 2 ^ width vs
-unfolding width widthWith
-width-holds vs = bit-length (spread vs / divisor vs)
+pub width-holds : (g : ℕ) (vs : List ℤ) → spread vs / g < 2 ^ widthWith g vs
+unfolding widthWith
+width-holds g vs = bit-length (spread vs / g)
 
-pub width-least : (vs : List ℤ) (w : ℕ) → spread vs / divisor vs < 2 ^ w → width vs ≤ w
-unfolding width widthWith
-width-least vs w h = bit-length-le (spread vs / divisor vs) w h
+pub width-least : (g : ℕ) (vs : List ℤ) (w : ℕ) → spread vs / g < 2 ^ w → widthWith g vs ≤ w
+unfolding widthWith
+width-least g vs w h = bit-length-le (spread vs / g) w h
+
+-- the same of the stored numbers: each has w bits, and there is no less w of which this holds
+pub stored-fit : (g : ℕ) (vs : List ℤ) → 0 < g → Below (2 ^ widthWith g vs) (storedWith g vs)
+stored-fit = stored-below
+
+pub stored-least : (g : ℕ) (vs : List ℤ) (w : ℕ) → Below (2 ^ w) (storedWith g vs) → widthWith g vs ≤ w
+unfolding storedWith widthWith spread bitLength bitsIn smallest greatest
+stored-least g [] w t = rw (over-self (pos 0), zero-div g) zero-le
+stored-least g (v ∷ vs) w t =
+    let l : List ℤ = v ∷ vs in
+    let f : ℤ → ℕ = λ u. over (smallest l) u / g in
+    let a = greatest-among v vs in
+    let at : a .0 < length (storedWith g l) = omega (arith, length-stored-with g l, a .1) in
+    let top : getD (storedWith g l) (a .0) 0 ≡ spread l / g =
+    getD-any (storedWith g l) (a .0) 0 (f (pos 0)) at ∙ List·getD-map f l (a .0) (pos 0) ∙ ap f (a .2) in
+    width-least g l w (subst (λ (n : ℕ). n < 2 ^ w) top (below-at (2 ^ w) (storedWith g l) (a .0) t at))

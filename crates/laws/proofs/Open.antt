@@ -1,7 +1,7 @@
 -- A column's header, opened. Assumes nothing.
 use Rattle.format.specs.Kit.{_≡_, sym, ap, _∙_, subst, true, List, [], _∷_, _++_, append-assoc, some, ℕ, _+_, _^_, zero-add, arith, length}
 use Rattle.format.specs.Kit.{take, drop, length-append, drop-append-seam, take-at, drop-at, drop-drop, eq-eqb, eqb-true}
-use Rattle.format.specs.Refusals.{done, andThen, need, given}
+use Rattle.format.specs.Refusals.{done, andThen, need, given, HEADER, LENGTH}
 use Rattle.format.specs.Bytes.{bytesOf}
 use Rattle.format.specs.HeaderNumbers.{number, numberAt, numbersAt}
 use Rattle.format.specs.Pairs.{Below}
@@ -19,43 +19,53 @@ abbrev pub tail : Head → List ℕ
 tail h =
     h .count ∷ h .power ∷ h .idBytes ∷ h .jumpCount ∷ h .fields .width ∷ h .fields .smallest ∷ h .fields .divisor ∷ h .valueBytes ∷ []
 
-module _ (h : Head) (is xs : List ℕ) where
+-- bytes that begin with a header's numbers are opened as the rules and the lengths say
+module _ (h : Head) (rest : List ℕ) (small : Below (2 ^ 64) (tail h)) where
   -- the edition's bytes
   abbrev first : List ℕ
   first = number (numberOf (h .edition))
 
+  abbrev begun : List ℕ
+  begun = bytesOf number (headNumbers h) ++ rest
+
+  begun-is : begun ≡ first ++ (bytesOf number (tail h) ++ rest)
+  unfolding headNumbers bytesOf
+  begun-is = append-assoc first (bytesOf number (tail h)) rest
+
+  start-is : length first + length (bytesOf number (tail h)) ≡ length (bytesOf number (headNumbers h))
+  unfolding headNumbers bytesOf
+  start-is = sym (length-append first (bytesOf number (tail h)))
+
+  first-number : numberAt begun 0 ≡ done (numberOf (h .edition), 0 + length first)
+  first-number = number-at begun 0 (numberOf (h .edition)) (bytesOf number (tail h) ++ rest) begun-is (number-small (h .edition))
+
+  others : numbersAt 8 begun (0 + length first) ≡ done (tail h, length (bytesOf number (headNumbers h)))
+  others =
+      numbers-at (tail h) begun (0 + length first) rest
+      (rw zero-add (ap (drop (length first)) begun-is ∙ drop-append-seam first (bytesOf number (tail h) ++ rest))) small
+      ∙ ap (λ (n : ℕ). done (tail h, n)) (rw zero-add start-is)
+
+  pub open-headed : (known : List Edition) → Knows known (h .edition) → let c : Opened = record { head = h; start = length (bytesOf number (headNumbers h)) } in
+      openColumn known begun ≡ need (headOk h) HEADER 0 (need (lengthOk begun c) LENGTH 0 (done c))
+  unfolding openColumn andThen given headFrom
+  open-headed known k = rw (first-number, k, others)
+
+module _ (h : Head) (is xs : List ℕ) where
   abbrev pub headed : List ℕ
   headed = bytesOf number (headNumbers h) ++ (is ++ xs)
 
   abbrev pub openedAs : Opened
   openedAs = record { head = h; start = length (bytesOf number (headNumbers h)) }
 
-  headed-is : headed ≡ first ++ (bytesOf number (tail h) ++ (is ++ xs))
-  unfolding headNumbers bytesOf
-  headed-is = append-assoc first (bytesOf number (tail h)) (is ++ xs)
-
-  start-is : length first + length (bytesOf number (tail h)) ≡ length (bytesOf number (headNumbers h))
-  unfolding headNumbers bytesOf
-  start-is = sym (length-append first (bytesOf number (tail h)))
-
   length-headed : length headed ≡ length (bytesOf number (headNumbers h)) + (length is + length xs)
   length-headed = length-append (bytesOf number (headNumbers h)) (is ++ xs) ∙ ap (λ (n : ℕ). length (bytesOf number (headNumbers h)) + n) (length-append is xs)
 
   module _ (small : Below (2 ^ 64) (tail h)) (ok : headOk h ≡ true) (hi : length is ≡ h .idBytes) (hv : length xs ≡ h .valueBytes) where
-    first-number : numberAt headed 0 ≡ done (numberOf (h .edition), 0 + length first)
-    first-number = number-at headed 0 (numberOf (h .edition)) (bytesOf number (tail h) ++ (is ++ xs)) headed-is (number-small (h .edition))
-
-    others : numbersAt 8 headed (0 + length first) ≡ done (tail h, length (bytesOf number (headNumbers h)))
-    others =
-        numbers-at (tail h) headed (0 + length first) (is ++ xs)
-        (rw zero-add (ap (drop (length first)) headed-is ∙ drop-append-seam first (bytesOf number (tail h) ++ (is ++ xs)))) small
-        ∙ ap (λ (n : ℕ). done (tail h, n)) (rw zero-add start-is)
-
     pub opened-is : (known : List Edition) → Knows known (h .edition) → openColumn known headed ≡ done openedAs
-    unfolding openColumn andThen need given headFrom
+    unfolding need
     opened-is known k =
         let whole : length (bytesOf number (headNumbers h)) + h .idBytes + h .valueBytes ≡ length headed = omega (arith, length-headed) in
-        rw (first-number, k, others, ok, eq-eqb _ _ whole)
+        open-headed h (is ++ xs) small known k ∙ rw (ok, eq-eqb _ _ whole)
 
     pub id-part : idPart headed openedAs ≡ is
     unfolding idPart

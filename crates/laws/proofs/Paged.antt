@@ -2,11 +2,12 @@
 use Rattle.format.specs.Kit.{_≡_, refl, ap, _∙_, List, [], _∷_, _++_, map, ℕ, zero, suc, _≤_, _<_, arith, le-leb, lt-leb, ℤ, length, drop, getD}
 use Rattle.format.specs.Kit.{length-append, length-map, length-drop, List·getD-append, List·getD-map, drop-at, sets}
 use Rattle.format.specs.Refusals.{Outcome, done, refused, need, BUFFER}
-use Rattle.format.specs.Editions.{Edition}
+use Rattle.format.specs.Editions.{Edition, among}
 use Rattle.format.specs.LookUp.{Look, found, absent, lookUp}
 use Rattle.format.specs.Page.{placeKind, page, pageAfter}
 use Rattle.laws.proofs.Stores.{sets-front}
-use Rattle.format.proofs.Never.{Never, never, at-need, at-then, of-open, of-steps}
+use Rattle.laws.proofs.Cases.{false-true}
+use Rattle.laws.proofs.RefusalNumbers.{look-up-refusals}
 
 -- ---- the tests
 
@@ -78,27 +79,23 @@ module _ {A : Type 0} (f : Outcome Look → A) (known : List Edition) (bytes ids
 
 -- ---- kinds: no look-up is refused with 0 or 1, so that 0 is a found id and 1 an absent one
 
-found-kind : (x : Outcome Look) → Never 0 x → placeKind x ≡ 0 → (o : ℕ) × (v : ℤ) × (w : ℕ) × (x ≡ done (found o v w))
+found-kind : (x : Outcome Look) → ((w : ℕ) → x ≡ refused 0 w → ⊥) → placeKind x ≡ 0 → (o : ℕ) × (v : ℤ) × (w : ℕ) × (x ≡ done (found o v w))
 unfolding placeKind
 found-kind (done (found o v w)) n e = (o, v, w, refl)
 found-kind (done (absent w)) n e = absurd (omega arith)
-found-kind (refused why w) n e = absurd (never 0 (refused why w) w n (ap {B = Outcome Look} (λ (m : ℕ). refused m w) e))
+found-kind (refused why w) n e = absurd (n w (ap {B = Outcome Look} (λ (m : ℕ). refused m w) e))
 
-absent-kind : (x : Outcome Look) → Never 1 x → placeKind x ≡ 1 → (w : ℕ) × (x ≡ done (absent w))
+absent-kind : (x : Outcome Look) → ((w : ℕ) → x ≡ refused 1 w → ⊥) → placeKind x ≡ 1 → (w : ℕ) × (x ≡ done (absent w))
 unfolding placeKind
 absent-kind (done (found o v w)) n e = absurd (omega arith)
 absent-kind (done (absent w)) n e = (w, refl)
-absent-kind (refused why w) n e = absurd (never 1 (refused why w) w n (ap {B = Outcome Look} (λ (m : ℕ). refused m w) e))
+absent-kind (refused why w) n e = absurd (n w (ap {B = Outcome Look} (λ (m : ℕ). refused m w) e))
 
 module _ (known : List Edition) (bytes : List ℕ) (id : ℕ) where
   pub kind-0 : placeKind (lookUp known bytes id) ≡ 0 → (o : ℕ) × (v : ℤ) × (w : ℕ) × (lookUp known bytes id ≡ done (found o v w))
-  unfolding lookUp
-  kind-0 =
-      found-kind _
-      (at-need 0 _ _ _ _ refl (at-then 0 _ _ (of-open 0 refl refl refl refl refl known bytes) (λ c. of-steps 0 refl bytes c _ id)))
+  unfolding among
+  kind-0 = found-kind _ (λ w e. false-true (look-up-refusals known bytes id 0 w e))
 
   pub kind-1 : placeKind (lookUp known bytes id) ≡ 1 → (w : ℕ) × (lookUp known bytes id ≡ done (absent w))
-  unfolding lookUp
-  kind-1 =
-      absent-kind _
-      (at-need 1 _ _ _ _ refl (at-then 1 _ _ (of-open 1 refl refl refl refl refl known bytes) (λ c. of-steps 1 refl bytes c _ id)))
+  unfolding among
+  kind-1 = absent-kind _ (λ w e. false-true (look-up-refusals known bytes id 1 w e))

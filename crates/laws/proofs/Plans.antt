@@ -4,7 +4,7 @@
 use Rattle.format.specs.Kit.{_≡_, refl, sym, ap, _∙_, subst, true, false, List, [], _∷_, ℕ, _+_, arith}
 use Rattle.format.specs.Kit.{_≤_, leb, ltb, ℤ, length, length-append, le-leb, lt-ltb, ltb-true, le-ltb, ltb-false}
 use Rattle.format.specs.Limits.{maxCount}
-use Rattle.format.specs.Refusals.{Outcome, done, refused, need, EDITION, PLAN}
+use Rattle.format.specs.Refusals.{done}
 use Rattle.format.specs.Bytes.{bytesOf}
 use Rattle.format.specs.HeaderNumbers.{number, groups}
 use Rattle.format.specs.Bits.{packedBytes}
@@ -12,11 +12,11 @@ use Rattle.format.specs.Values.{stored}
 use Rattle.format.specs.Ids.{idSection, jumps}
 use Rattle.format.specs.Pairs.{Each, Fits}
 use Rattle.format.specs.Codec.{Codec, scaled, widthBy}
-use Rattle.format.specs.Editions.{Edition, plain, table, numberOf, editions, editionIn, highFirst, codec}
+use Rattle.format.specs.Editions.{Edition, plain, table, numberOf, highFirst, codec}
 use Rattle.format.specs.Column.{headOf, headNumbers, column}
 use Rattle.format.specs.Table.{tableOf, tableFields, tableBytes, allIn, valueShare, shorter, tableOk, tabled}
 use Rattle.format.specs.Plan.{planOk, planOf, planned, planEdition, chosen}
-use Rattle.format.specs.Writer.{writeIf, writeAs, writePlanned, write}
+use Rattle.format.specs.Writer.{writeIf, writeAs, writePlanned}
 use Rattle.laws.proofs.Bits.{length-packed}
 use Rattle.laws.proofs.Values.{length-stored}
 use Rattle.laws.proofs.Ascending.{all-each, table-is}
@@ -24,7 +24,6 @@ use Rattle.laws.proofs.SameMembers.{each-in, in-each, same-fields}
 use Rattle.laws.proofs.Table.{table-facts, length-section}
 use Rattle.laws.proofs.Cases.{true-or}
 use Rattle.laws.proofs.Tests.{needed, needed-none}
-use Rattle.format.proofs.Never.{Never, never, at-done, at-need, at-none, at-given, at-then}
 
 -- ---- one table for a list of values
 
@@ -134,9 +133,9 @@ pub chosen-takes : (ed : Edition) (vs : List ℤ) → codec (chosen ed vs) .take
 unfolding chosen planOk planEdition
 chosen-takes ed vs = true-or (codec ed .takes vs) (λ e. rw e e) (λ e. rw e (plan-takes [] vs refl))
 
--- a plan that the small check takes is written as its edition says; any other is refused with PLAN, where nothing before it is refused
-pub planned-write : (p : ℕ) (ids : List ℕ) (vs us : List ℤ) (room : ℕ) → planOk us vs ≡ true → writePlanned p ids vs us room ≡ writeAs (planEdition us) p ids
-    vs room
+-- a plan that the small check takes is written as its edition says (that any other gets PLAN, exactly: `seventeen-exactly` in WritersSay.antt)
+pub planned-write : (p : ℕ) (ids : List ℕ) (vs us : List ℤ) (room : ℕ) → planOk us vs ≡ true
+    → writePlanned p ids vs us room ≡ writeAs (planEdition us) p ids vs room
 unfolding writePlanned writeAs
 planned-write p ids vs us room e = rw (e, plan-takes us vs e)
 
@@ -156,23 +155,3 @@ planned-taken p ids vs us room b e =
     let s3 = needed-none _ _ _ b (s2 .1) in
     let s4 = needed-none _ _ _ b (s3 .1) in
     needed _ _ _ _ b (s4 .1) .0
-
--- told an edition it plans for itself,
-passed : (next : Outcome (List ℕ)) → Never PLAN next → Never PLAN (need true PLAN 0 next)
-unfolding need
-passed next h = h
-
-chosen-never : (ed : Edition) (p : ℕ) (ids : List ℕ) (vs : List ℤ) (room : ℕ) → Never PLAN (writeAs (chosen ed vs) p ids vs room)
-unfolding writeAs writeIf
-chosen-never ed p ids vs room =
-    rw (chosen-takes ed vs)
-    (at-need PLAN _ _ _ _ refl (at-need PLAN _ _ _ _ refl (at-none PLAN _ _ _ refl (at-none PLAN _ _ _ refl
-    (passed _ (at-need PLAN _ _ _ _ refl (at-done PLAN _)))))))
-
--- and so it never refuses a plan
-pub write-never-plan : (k p : ℕ) (ids : List ℕ) (vs : List ℤ) (room w : ℕ) → write k p ids vs room ≡ refused PLAN w → ⊥
-unfolding write
-write-never-plan k p ids vs room w =
-    never PLAN _ w
-    (at-need PLAN _ _ _ _ refl
-    (at-then PLAN _ _ (at-given PLAN (editionIn editions k) EDITION 0 refl) (λ ed. chosen-never ed p ids vs room)))

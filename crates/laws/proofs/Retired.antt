@@ -1,30 +1,38 @@
 -- Document 02, [7]: refusal 5, OFFSET, is retired. It was "a block would start at 2147483647 or later"; no block of a list within the
 -- limits comes near that line, and no call gives 5 for any input. Assumes nothing.
-use Rattle.format.specs.Kit.{_≡_, refl, ap, Bool, List, [], _∷_, _++_, append-assoc, ℕ, zero, suc, _+_, _*_, _≤_, _<_, zero-le, arith, ℤ, length, take}
+use Rattle.format.specs.Kit.{_≡_, refl, ap, false, List, [], _∷_, _++_, append-assoc, ℕ, zero, suc, _+_, _*_, _≤_, _<_, zero-le, arith, ℤ, length, take}
 use Rattle.format.specs.Kit.{drop, drop-at}
 use Rattle.format.specs.Limits.{maxBlocks, startLimit}
-use Rattle.format.specs.Refusals.{Outcome, done, refused}
+use Rattle.format.specs.Refusals.{Outcome, done, refused, LENGTHS, POWER, ORDER, RANGE, ROOM, SHORT, NUMBER, EDITION, HEADER, LENGTH, BUFFER, DAMAGED}
+use Rattle.format.specs.Refusals.{ID, BROKEN, BACK, PLAN, writeNumbers, plannedNumbers, setWriteNumbers, openNumbers, checkNumbers, readNumbers, lookUpNumbers}
+use Rattle.format.specs.Refusals.{nextNumbers, betweenNumbers, lookUpInNumbers, nextInNumbers, betweenInNumbers, setCheckNumbers, setFindNumbers}
 use Rattle.format.specs.Bytes.{bytesOf}
 use Rattle.format.specs.Ids.{Run, runs, blockOf, endBlock, jumps, entryBytes, blocks, idSection, startOf}
 use Rattle.format.specs.Runs.{AllFine, AscBlocks, endOf, totalBytes}
-use Rattle.format.specs.Editions.{Edition}
+use Rattle.format.specs.Editions.{Edition, among}
 use Rattle.format.specs.Valid.{Valid}
 use Rattle.format.specs.Plan.{plan}
-use Rattle.format.specs.Writer.{writeIf, writeAs, writePlanned}
+use Rattle.format.specs.Writer.{writePlanned, write}
 use Rattle.format.specs.Opening.{Opened, openColumn}
 use Rattle.format.specs.Check.{check, reading}
 use Rattle.format.specs.LookUp.{Look, found, absent, lookUp, lookUpIn}
 use Rattle.format.specs.Page.{placeKind, page}
 use Rattle.format.specs.Next.{next, nextIn}
 use Rattle.format.specs.FirstBetween.{firstBetween, firstBetweenIn}
+use Rattle.format.specs.Layered.{Layer, refusedBy, lookUpLayered, lookUpLayeredIn}
+use Rattle.format.specs.Orders.{Order}
+use Rattle.format.specs.Judge.{judgeSection}
 use Rattle.format.specs.SetBytes.{setWrite}
-use Rattle.format.specs.SetCalls.{setIds, setCheck, setFind}
-use Rattle.format.proofs.Never.{Never, never, at-done, at-need, at-none, at-then, of-open, of-accepted, of-steps, of-next, of-set, of-between}
+use Rattle.format.specs.SetCalls.{setCheck, setFind}
 use Rattle.laws.proofs.Pieces.{split-bytes}
 use Rattle.laws.proofs.Section.{length-blockOf, length-blocks}
 use Rattle.format.proofs.RankBytes.{rank-le}
 use Rattle.laws.proofs.Bounds.{block-le, end-le}
 use Rattle.laws.proofs.RoundTrip.{power16, power-ge, blocks-asc, blocks-fine, blocks-le}
+use Rattle.laws.proofs.RefusalNumbers.{within, unlisted, write-refusals, planned-refusals, plan-refusals, set-write-refusals, open-refusals}
+use Rattle.laws.proofs.RefusalNumbers.{check-refusals, reading-refusals, look-up-refusals, next-refusals, page-refusals, between-refusals}
+use Rattle.laws.proofs.RefusalNumbers.{look-up-in-refusals, next-in-refusals, between-in-refusals, layered-refusals, layered-in-refusals}
+use Rattle.laws.proofs.RefusalNumbers.{judge-refusals, set-check-refusals, set-find-refusals}
 
 -- ---- no block starts near the line
 
@@ -73,91 +81,81 @@ module _ {ed : Edition} (p : ℕ) (ids : List ℕ) (vs : List ℤ) (ok : Valid e
   pub starts-low : (i : ℕ) → startOf p ids i < startLimit
   starts-low i = omega (arith, starts-bound i)
 
--- ---- no call gives 5: on every input, in every edition and for a reader of any editions
+-- ---- a number that no call gives, on any input
 
-writes-not-5 : (planned : Bool) (ed : Edition) (p : ℕ) (ids : List ℕ) (vs : List ℤ) (room : ℕ) → Never 5 (writeIf planned ed p ids vs room)
-unfolding writeIf
-writes-not-5 planned ed p ids vs room =
-    at-need 5 _ _ _ _ refl (at-need 5 _ _ _ _ refl (at-none 5 _ _ _ refl (at-none 5 _ _ _ refl
-    (at-need 5 _ _ _ _ refl (at-need 5 _ _ _ _ refl (at-done 5 _))))))
+-- no call that writes: told an edition's number, by a plan, of a set; and the planner
+pub record WritersNever (k : ℕ) : Type 0 where
+  pub writing : (ed p : ℕ) (ids : List ℕ) (vs : List ℤ) (room w : ℕ) → write ed p ids vs room ≡ refused k w → ⊥
+  pub by-plan : (p : ℕ) (ids : List ℕ) (vs us : List ℤ) (room w : ℕ) → writePlanned p ids vs us room ≡ refused k w → ⊥
+  pub planning : (vs : List ℤ) (room w : ℕ) → plan vs room ≡ refused k w → ⊥
+  pub of-a-set : (ids : List ℕ) (room w : ℕ) → setWrite ids room ≡ refused k w → ⊥
 
-pub write-never-5 : (ed : Edition) (p : ℕ) (ids : List ℕ) (vs : List ℤ) (room w : ℕ) → writeAs ed p ids vs room ≡ refused 5 w → ⊥
-unfolding writeAs
-write-never-5 ed p ids vs room w = never 5 _ w (writes-not-5 _ ed p ids vs room)
+-- no call that reads: from bytes, by a reader of any editions; from a column that was opened before; with a correction on top; of an id section; of a set
+pub record ReadersNever (k : ℕ) : Type 0 where
+  pub opening : (known : List Edition) (bytes : List ℕ) (w : ℕ) → openColumn known bytes ≡ refused k w → ⊥
+  pub checking : (known : List Edition) (bytes : List ℕ) (w : ℕ) → check known bytes ≡ refused k w → ⊥
+  pub full-reading : (known : List Edition) (bytes : List ℕ) (idRoom valueRoom w : ℕ) → reading known bytes idRoom valueRoom ≡ refused k w → ⊥
+  pub looking : (known : List Edition) (bytes : List ℕ) (id w : ℕ) → lookUp known bytes id ≡ refused k w → ⊥
+  pub looking-in : (bytes : List ℕ) (c : Opened) (id w : ℕ) → lookUpIn bytes c id ≡ refused k w → ⊥
+  pub nexting : (known : List Edition) (bytes : List ℕ) (last t w : ℕ) → next known bytes last t ≡ refused k w → ⊥
+  pub nexting-in : (bytes : List ℕ) (c : Opened) (last t w : ℕ) → nextIn bytes c last t ≡ refused k w → ⊥
+  pub ranging : (bytes : List ℕ) (a b : ℤ) (w : ℕ) → firstBetween bytes a b ≡ refused k w → ⊥
+  pub ranging-in : (bytes : List ℕ) (c : Opened) (a b : ℤ) (w : ℕ) → firstBetweenIn bytes c a b ≡ refused k w → ⊥
+  pub paging : (known : List Edition) (bytes ids : List ℕ) (o v ks w : ℕ) → page known bytes ids o v ks ≡ refused k w → ⊥
+  pub layering : (known : List Edition) (m c : List ℕ) (id : ℕ) (layer : Layer) (w : ℕ) → lookUpLayered known m c id ≡ refusedBy layer k w → ⊥
+  pub layering-in : (m : List ℕ) (x : Opened) (c : List ℕ) (y : Opened) (id : ℕ) (layer : Layer) (w : ℕ)
+      → lookUpLayeredIn m x c y id ≡ refusedBy layer k w → ⊥
+  pub judging : (o : Order) (p j : ℕ) (s : List ℕ) (w : ℕ) → judgeSection o p j s ≡ refused k w → ⊥
+  pub set-checking : (bytes : List ℕ) (w : ℕ) → setCheck bytes ≡ refused k w → ⊥
+  pub set-finding : (bytes : List ℕ) (id w : ℕ) → setFind bytes id ≡ refused k w → ⊥
 
-pub planned-never-5 : (p : ℕ) (ids : List ℕ) (vs us : List ℤ) (room w : ℕ) → writePlanned p ids vs us room ≡ refused 5 w → ⊥
-unfolding writePlanned
-planned-never-5 p ids vs us room w = never 5 _ w (writes-not-5 _ _ p ids vs room)
+abbrev writers : List ℕ
+writers = LENGTHS ∷ EDITION ∷ POWER ∷ ORDER ∷ RANGE ∷ PLAN ∷ ROOM ∷ BUFFER ∷ []
 
-pub plan-never-5 : (vs : List ℤ) (room w : ℕ) → plan vs room ≡ refused 5 w → ⊥
-unfolding plan
-plan-never-5 vs room w = never 5 _ w (at-need 5 _ _ _ _ refl (at-done 5 _))
+abbrev readers : List ℕ
+readers = SHORT ∷ NUMBER ∷ EDITION ∷ HEADER ∷ LENGTH ∷ BUFFER ∷ DAMAGED ∷ ID ∷ BROKEN ∷ BACK ∷ []
 
-module _ (known : List Edition) (bytes : List ℕ) (w : ℕ) where
-  open-not-5 : Never 5 (openColumn known bytes)
-  open-not-5 = of-open 5 refl refl refl refl refl known bytes
+writers-never : (k : ℕ) → among writers k ≡ false → WritersNever k
+unfolding within among
+writers-never k n =
+    record {
+      writing = λ ed p ids vs room w e. unlisted writeNumbers writers k refl n (write-refusals ed p ids vs room k w e);
+      by-plan = λ p ids vs us room w e. unlisted plannedNumbers writers k refl n (planned-refusals p ids vs us room k w e);
+      planning = λ vs room w e. unlisted (BUFFER ∷ []) writers k refl n (plan-refusals vs room k w e);
+      of-a-set = λ ids room w e. unlisted setWriteNumbers writers k refl n (set-write-refusals ids room k w e);
+    }
 
-  pub open-never-5 : openColumn known bytes ≡ refused 5 w → ⊥
-  open-never-5 = never 5 _ w open-not-5
+readers-never : (k : ℕ) → among readers k ≡ false → ReadersNever k
+unfolding within among
+readers-never k n =
+    record {
+      opening = λ known bytes w e. unlisted openNumbers readers k refl n (open-refusals known bytes k w e);
+      checking = λ known bytes w e. unlisted checkNumbers readers k refl n (check-refusals known bytes k w e);
+      full-reading = λ known bytes i v w e. unlisted readNumbers readers k refl n (reading-refusals known bytes i v k w e);
+      looking = λ known bytes id w e. unlisted lookUpNumbers readers k refl n (look-up-refusals known bytes id k w e);
+      looking-in = λ bytes c id w e. unlisted lookUpInNumbers readers k refl n (look-up-in-refusals bytes c id k w e);
+      nexting = λ known bytes last t w e. unlisted nextNumbers readers k refl n (next-refusals known bytes last t k w e);
+      nexting-in = λ bytes c last t w e. unlisted nextInNumbers readers k refl n (next-in-refusals bytes c last t k w e);
+      ranging = λ bytes a b w e. unlisted betweenNumbers readers k refl n (between-refusals bytes a b k w e);
+      ranging-in = λ bytes c a b w e. unlisted betweenInNumbers readers k refl n (between-in-refusals bytes c a b k w e);
+      paging = λ known bytes ids o v ks w e. unlisted (BUFFER ∷ []) readers k refl n (page-refusals known bytes ids o v ks k w e);
+      layering = λ known m c id layer w e. unlisted lookUpNumbers readers k refl n (layered-refusals m c id k w known layer e);
+      layering-in = λ m x c y id layer w e. unlisted lookUpInNumbers readers k refl n (layered-in-refusals m c id k w x y layer e);
+      judging = λ o p j s w e. unlisted (HEADER ∷ []) readers k refl n (judge-refusals o p j s k w e);
+      set-checking = λ bytes w e. unlisted setCheckNumbers readers k refl n (set-check-refusals bytes k w e);
+      set-finding = λ bytes id w e. unlisted setFindNumbers readers k refl n (set-find-refusals bytes id k w e);
+    }
 
-  pub check-never-5 : check known bytes ≡ refused 5 w → ⊥
-  unfolding check
-  check-never-5 = never 5 _ w (at-then 5 _ _ open-not-5 (λ c. at-then 5 _ _ (of-accepted 5 refl bytes c) (λ q. at-done 5 _)))
+-- "don't use 5 again": no call answers it
+pub writers-never-5 : WritersNever 5
+unfolding among
+writers-never-5 = writers-never 5 refl
 
-  pub reading-never-5 : (idRoom valueRoom : ℕ) → reading known bytes idRoom valueRoom ≡ refused 5 w → ⊥
-  unfolding reading
-  reading-never-5 a b = never 5 _ w (at-then 5 _ _ open-not-5 (λ c. at-need 5 _ _ _ _ refl (of-accepted 5 refl bytes c)))
+pub readers-never-5 : ReadersNever 5
+unfolding among
+readers-never-5 = readers-never 5 refl
 
-  pub look-up-never-5 : (id : ℕ) → lookUp known bytes id ≡ refused 5 w → ⊥
-  unfolding lookUp
-  look-up-never-5 id = never 5 _ w (at-need 5 _ _ _ _ refl (at-then 5 _ _ open-not-5 (λ c. of-steps 5 refl bytes c _ id)))
-
-  pub next-never-5 : (last t : ℕ) → next known bytes last t ≡ refused 5 w → ⊥
-  unfolding next
-  next-never-5 last t =
-      never 5 _ w (at-need 5 _ _ _ _ refl (at-need 5 _ _ _ _ refl (at-then 5 _ _ open-not-5 (λ c. of-next 5 refl bytes c t))))
-
-pub look-up-in-never-5 : (bytes : List ℕ) (c : Opened) (id w : ℕ) → lookUpIn bytes c id ≡ refused 5 w → ⊥
-unfolding lookUpIn
-look-up-in-never-5 bytes c id w =
-    never 5 _ w (at-need 5 _ _ _ _ refl (at-need 5 _ _ _ _ refl (at-need 5 _ _ _ _ refl (of-steps 5 refl bytes c _ id))))
-
-pub next-in-never-5 : (bytes : List ℕ) (c : Opened) (last t w : ℕ) → nextIn bytes c last t ≡ refused 5 w → ⊥
-unfolding nextIn
-next-in-never-5 bytes c last t w =
-    never 5 _ w (at-need 5 _ _ _ _ refl (at-need 5 _ _ _ _ refl (at-need 5 _ _ _ _ refl (at-need 5 _ _ _ _ refl (of-next 5 refl bytes c t)))))
-
-pub between-never-5 : (bytes : List ℕ) (a b : ℤ) (w : ℕ) → firstBetween bytes a b ≡ refused 5 w → ⊥
-unfolding firstBetween
-between-never-5 bytes a b w = never 5 _ w (at-then 5 _ _ (open-not-5 _ bytes w) (λ c. of-between 5 refl bytes c a b))
-
-pub between-in-never-5 : (bytes : List ℕ) (c : Opened) (a b : ℤ) (w : ℕ) → firstBetweenIn bytes c a b ≡ refused 5 w → ⊥
-unfolding firstBetweenIn
-between-in-never-5 bytes c a b w =
-    never 5 _ w (at-need 5 _ _ _ _ refl (at-need 5 _ _ _ _ refl (at-need 5 _ _ _ _ refl (of-between 5 refl bytes c a b))))
-
--- nor does a call on a set (document 02, [14])
-pub set-write-never-5 : (ids : List ℕ) (room w : ℕ) → setWrite ids room ≡ refused 5 w → ⊥
-unfolding setWrite
-set-write-never-5 ids room w = never 5 _ w (at-none 5 _ _ _ refl (at-none 5 _ _ _ refl (at-need 5 _ _ _ _ refl (at-done 5 _))))
-
-module _ (bytes : List ℕ) (w : ℕ) where
-  set-not-5 : Never 5 (setIds bytes)
-  set-not-5 = of-set 5 refl refl refl bytes
-
-  pub set-check-never-5 : setCheck bytes ≡ refused 5 w → ⊥
-  unfolding setCheck
-  set-check-never-5 = never 5 _ w (at-then 5 _ _ set-not-5 (λ ids. at-done 5 _))
-
-  pub set-find-never-5 : (id : ℕ) → setFind bytes id ≡ refused 5 w → ⊥
-  unfolding setFind
-  set-find-never-5 id = never 5 _ w (at-need 5 _ _ _ _ refl (at-then 5 _ _ set-not-5 (λ ids. at-done 5 _)))
-
--- a page, and each of its kinds
-pub page-never-5 : (known : List Edition) (bytes ids : List ℕ) (o v k w : ℕ) → page known bytes ids o v k ≡ refused 5 w → ⊥
-unfolding page
-page-never-5 known bytes ids o v k w = never 5 _ w (at-need 5 _ _ _ _ refl (at-done 5 _))
-
+-- nor is it the kind of a place in a page
 not-kind-5 : (x : Outcome Look) → ((w : ℕ) → x ≡ refused 5 w → ⊥) → placeKind x ≡ 5 → ⊥
 unfolding placeKind
 not-kind-5 (done (found o v w)) h e = omega arith
@@ -165,4 +163,9 @@ not-kind-5 (done (absent w)) h e = omega arith
 not-kind-5 (refused why w) h e = h w (ap {B = Outcome Look} (λ (m : ℕ). refused m w) e)
 
 pub kind-never-5 : (known : List Edition) (bytes : List ℕ) (id : ℕ) → placeKind (lookUp known bytes id) ≡ 5 → ⊥
-kind-never-5 known bytes id = not-kind-5 (lookUp known bytes id) (λ w. look-up-never-5 known bytes w id)
+kind-never-5 known bytes id = not-kind-5 (lookUp known bytes id) (readers-never-5 .looking known bytes id)
+
+-- 1 is the writers' alone
+pub readers-never-1 : ReadersNever LENGTHS
+unfolding among
+readers-never-1 = readers-never LENGTHS refl

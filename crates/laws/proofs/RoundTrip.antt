@@ -14,6 +14,7 @@ use Rattle.format.specs.Valid.{Valid}
 use Rattle.format.specs.Column.{Head, headOf, column}
 use Rattle.format.specs.Writer.{notAbove, orderFault, rangeFault, writeIf, writeAs}
 use Rattle.format.specs.Opening.{headOk, Opened, openColumn, idPart, valuePart, valueIn}
+use Rattle.format.specs.Says.{Within}
 use Rattle.format.specs.Check.{allValues, pairsIn, isDone, isColumn, accepted, check, reading}
 use Rattle.laws.proofs.Places.{asc-length}
 use Rattle.laws.proofs.Section.{length-idSection}
@@ -142,6 +143,14 @@ module _ {ed : Edition} (p : ℕ) (ids : List ℕ) (vs : List ℤ) (ok : Valid e
       (omega (arith, section-is, runs-le p (runs ids))))
       ∙ ids-runs ids
 
+-- ---- the writer has nothing but the room to ask for, of a list within the limits and values that the edition takes
+
+pub room-decides : (ed : Edition) (p : ℕ) (ids : List ℕ) (vs : List ℤ) → length ids ≡ length vs → Within p ids → codec ed .takes vs ≡ true → (room : ℕ)
+    → writeAs ed p ids vs room ≡ need (leb (length (column ed p ids vs)) room) ROOM (length (column ed p ids vs)) (done (column ed p ids vs))
+unfolding writeAs writeIf need needNone
+room-decides ed p ids vs l a t room =
+    rw (eq-eqb (length ids) (length vs) l, a .power, in-order ids (a .ascending), in-range 0 ids (a .range), t)
+
 -- ---- the column of a list, as it is opened
 
 module _ (ed : Edition) (p : ℕ) (ids : List ℕ) (vs : List ℤ) where
@@ -216,25 +225,16 @@ module _ (ed : Edition) (law : Lawful (codec ed)) (p : ℕ) (ids : List ℕ) (vs
 
   -- ---- the calls
 
-  -- the writer has nothing but the room to ask for
-  room-decides : (room : ℕ) → writeAs ed p ids vs room ≡ need (leb (length bytes) room) ROOM (length bytes) (done bytes)
-  unfolding writeAs writeIf need needNone
-  room-decides room =
-      rw (
-        eq-eqb (length ids) (length vs) (ok .lengths),
-        ok .power,
-        in-order ids (ok .ascending),
-        in-range 0 ids (ok .range),
-        ok .taken,
-      )
+  within : Within p ids
+  within = record { power = ok .power; ascending = ok .ascending; range = ok .range }
 
   pub written : (room : ℕ) → length bytes ≤ room → writeAs ed p ids vs room ≡ done bytes
   unfolding need
-  written room k = room-decides room ∙ rw (le-leb (length bytes) room k) refl
+  written room k = room-decides ed p ids vs (ok .lengths) within (ok .taken) room ∙ rw (le-leb (length bytes) room k) refl
 
   pub no-room : (room : ℕ) → room < length bytes → writeAs ed p ids vs room ≡ refused ROOM (length bytes)
   unfolding need
-  no-room room k = room-decides room ∙ rw (lt-leb (length bytes) room k) refl
+  no-room room k = room-decides ed p ids vs (ok .lengths) within (ok .taken) room ∙ rw (lt-leb (length bytes) room k) refl
 
   pub taken : accepted bytes col ≡ done (record { ids = ids; values = vs })
   unfolding accepted andThen given need isColumn isDone the-column headOf the-head

@@ -11,6 +11,7 @@ use Rattle.format.specs.Editions.{Edition, Knows, codec}
 use Rattle.format.specs.Column.{Head, column, headOf}
 use Rattle.format.specs.Writer.{notAbove, orderFault, rangeFault, writeIf, writeAs}
 use Rattle.format.specs.Opening.{Opened, openColumn, valuePart, valueIn}
+use Rattle.format.specs.Says.{Within}
 use Rattle.format.specs.Check.{allValues, pairsIn, isDone, isColumn, accepted}
 use Rattle.laws.proofs.Tests.{result, needed, needed-none, given-some, passed, both-true}
 use Rattle.laws.proofs.Open.{opened-ok}
@@ -71,25 +72,42 @@ is-done (done out) bytes e = ap {B = Outcome (List ℕ)} (λ (l : List ℕ). don
 is-done (refused why w) bytes e = absurd (let z : _≡_ {A = ℕ} 0 1 = cc in omega arith)
 
 -- the writer takes nothing else
-pub written-valid : (ed : Edition) (p : ℕ) (ids : List ℕ) (vs : List ℤ) (room : ℕ) (out : List ℕ) → Each Fits vs
-    → writeAs ed p ids vs room ≡ done out → Valid ed p ids vs × (column ed p ids vs ≡ out)
+pub record Taken (ed : Edition) (p : ℕ) (ids : List ℕ) (vs : List ℤ) (out : List ℕ) : Type 0 where
+  pub lengths : length ids ≡ length vs
+  pub limits : Within p ids
+  pub taken : codec ed .takes vs ≡ true
+  pub same-bytes : column ed p ids vs ≡ out
+
+pub written-taken : (ed : Edition) (p : ℕ) (ids : List ℕ) (vs : List ℤ) (room : ℕ) (out : List ℕ) → writeAs ed p ids vs room ≡ done out → Taken ed p ids vs out
 unfolding writeAs writeIf
-written-valid ed p ids vs room out fit e =
+written-taken ed p ids vs room out e =
     let s1 = needed _ _ _ _ out e in
     let s2 = needed _ _ _ _ out (s1 .1) in
     let s3 = needed-none _ _ _ out (s2 .1) in
     let s4 = needed-none _ _ _ out (s3 .1) in
     let s5 = needed _ _ _ _ out (s4 .1) in
-    let s6 = needed _ _ _ _ out (s5 .1) in (
+    let s6 = needed _ _ _ _ out (s5 .1) in
+    record {
+      lengths = eqb-true (length ids) (length vs) (s1 .0);
+      limits = record { power = s2 .0; ascending = ordered ids (s3 .0); range = ranged 0 ids (s4 .0) };
+      taken = s5 .0;
+      same-bytes = ap (result []) (s6 .1);
+    }
+
+-- of signed 64-bit values
+pub written-valid : (ed : Edition) (p : ℕ) (ids : List ℕ) (vs : List ℤ) (room : ℕ) (out : List ℕ) → Each Fits vs
+    → writeAs ed p ids vs room ≡ done out → Valid ed p ids vs × (column ed p ids vs ≡ out)
+written-valid ed p ids vs room out fit e =
+    let t = written-taken ed p ids vs room out e in (
       record {
-        lengths = eqb-true (length ids) (length vs) (s1 .0);
-        power = s2 .0;
-        ascending = ordered ids (s3 .0);
-        range = ranged 0 ids (s4 .0);
+        lengths = t .lengths;
+        power = t .limits .power;
+        ascending = t .limits .ascending;
+        range = t .limits .range;
         fit = fit;
-        taken = s5 .0;
+        taken = t .taken;
       },
-      ap (result []) (s6 .1),
+      t .same-bytes,
     )
 
 -- a column of the edition and the power that a header has

@@ -1,2 +1,3 @@
--- The layered answer by the correction's, and the part by that answer.
+-- The layered answer by the correction's, the part by that answer, and the words that it tells of each column.
 pub mod Layering
+pub mod Words

@@ -1,4 +1,5 @@
 -- The code's layered answers as `format`'s. Assumes nothing.
+use Rattle.format.specs.Kit.{ℕ}
 use Rattle.format.specs.Refusals.{Outcome}
 use Rattle.answers.specs.Replies.{refusalNumber, refusalWith}
 use Rattle.format.specs.LookUp.{Look}
@@ -16,6 +17,12 @@ abbrev pub layeredOf : Ly.Layered → Ld.LayeredLook
 layeredOf (Ly.Layered.Found layer o v w k) = Ld.foundIn (layerOf layer) o v w k
 layeredOf (Ly.Layered.Absent w k) = Ld.absentIn w k
 layeredOf (Ly.Layered.Refused layer why) = Ld.refusedBy (layerOf layer) (refusalNumber why) (refusalWith why)
+
+-- the words that an answer tells of a column; a refusal has none to tell
+abbrev pub wordsIn : Ld.Layer → Ly.Layered → ℕ
+wordsIn layer (Ly.Layered.Found l o v w k) = Ld.ofLayer w k layer
+wordsIn layer (Ly.Layered.Absent w k) = Ld.ofLayer w k layer
+wordsIn layer (Ly.Layered.Refused l why) = 0
 
 abbrev pub partOf : Part → Ld.Part
 partOf p = Ld.part (layerOf (p .layer)) (p .start) (p .len)

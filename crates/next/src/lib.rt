@@ -12,8 +12,10 @@ ghost use Rattle.answers.specs.Replies.{refusedAs};
 ghost use Rattle.column.specs.Opened.{columnOf};
 ghost use Rattle.lookup.specs.Steps.{Fair};
 ghost use Rattle.next.specs.Blocks.{BlockAs, PassedTo, WalkedAs, sumOf, Told};
+use answers::ABSENT;
 use answers::Candidate;
 use answers::Cursor;
+use answers::FOUND;
 use answers::Next;
 use answers::Refusal;
 use blocks::Block;
@@ -26,8 +28,8 @@ use next_in_block::First;
 use scaled_values::Slotted;
 use values::Fetched;
 
-// The blocks that ids have.
-const BLOCKS: usize = 32766;
+// The blocks that ids have, as a number to count them by.
+const BLOCKS: usize = limits::MAX_BLOCKS as usize;
 
 // An id of the id section with its ordinal, none, or a failed step.
 enum Met {
@@ -123,8 +125,11 @@ fn walk(s: &[u8], q: Ask) -> Met
 
 // ---- the answer
 
-// What the steps come to, in whole words: kind 0 with id, ordinal and value; 1, none; 2, a failed step. (Ordinal and value stand apart,
-// since the callers would read them as one number of 16 bytes just after they were written as two, which stalls.)
+// A failed step, beside FOUND and ABSENT.
+const FAILED: u64 = 2;
+
+// What the steps come to, in whole words: found, with id, ordinal and value; absent; a failed step. (Ordinal and value stand apart, since the
+// callers would read them as one number of 16 bytes just after they were written as two, which stalls.)
 struct Sum {
     ordinal: u64,
     kind: u64,
@@ -154,8 +159,8 @@ fn steps_from(bytes: &[u8], column: Column, target: u32) -> Sum
     let met = walk(&bytes[start..end], lookup::ask_of(column, target));
     let Met::At { id, ordinal } = met else {
         return match met {
-            Met::Nothing => no_more(1),
-            _ => no_more(2),
+            Met::Nothing => no_more(ABSENT),
+            _ => no_more(FAILED),
         };
     };
     let section = &bytes[end..];
@@ -164,10 +169,10 @@ fn steps_from(bytes: &[u8], column: Column, target: u32) -> Sum
     let slot: Slotted = values::slot_of(section, edition, head.count, fields, ordinal);
     let stored = values::number_in(section, edition, slot);
     let Fetched::Value(value) = values::value_of(section, edition, fields, slot, stored) else {
-        return no_more(2);
+        return no_more(FAILED);
     };
     Sum {
-        kind: 0,
+        kind: FOUND,
         id,
         ordinal,
         value,
@@ -199,7 +204,7 @@ fn moved(target: u32, candidate: Candidate) -> Next
 fn answered(cursor: Cursor, target: u32, sum: Sum) -> Next
     ensures { λ r. ⌜ Told (sumOf sum) (cursor .last) target r ⌝ }
 {
-    if sum.kind == 0 {
+    if sum.kind == FOUND {
         let found = Candidate::Found {
             id: sum.id,
             ordinal: sum.ordinal,
@@ -207,7 +212,7 @@ fn answered(cursor: Cursor, target: u32, sum: Sum) -> Next
         };
         return moved(target, found);
     }
-    if sum.kind == 1 {
+    if sum.kind == ABSENT {
         return moved(target, Candidate::Nothing);
     }
     refused(cursor, Refusal::Broken)

@@ -7,7 +7,7 @@ ghost use Prim.Native.Nat.{ℕ, _+_, _/_, _<_};
 ghost use lib.Dec.{eqb, leb};
 ghost use lib.ListN.{length};
 ghost use Rattle.format.specs.Limits.{blockPlaces};
-ghost use Rattle.format.specs.Refusals.{done, refused};
+ghost use Rattle.format.specs.Refusals.{done};
 ghost use Rattle.format.specs.Editions.{editions};
 ghost use Rattle.format.specs.Opening.{headOk, lengthOk, openColumn, valueOf};
 ghost use Rattle.format.specs.LookUp.{absent, lookUp};
@@ -30,6 +30,11 @@ mod marks;
 
 // ---- one place of the page
 
+// The kinds of an answer as a page has them.
+const FOUND: u8 = answers::FOUND as u8;
+
+const ABSENT: u8 = answers::ABSENT as u8;
+
 // What a place holds, and the words that count. (Ordinal and value stand apart, as in `next::Sum`.)
 struct Held {
     ordinal: u64,
@@ -43,18 +48,18 @@ fn absent(words: u64) -> Held
 {
     Held {
         ordinal: 0,
-        kind: 1,
+        kind: ABSENT,
         value: 0,
         words,
     }
 }
 
-fn refused(number: u8) -> Held
-    ensures { λ h. ⌜ ((w : ℕ) → Holds (refused number w) h) ⌝ }
+fn refused(why: Refusal) -> Held
+    ensures { λ h. ⌜ Holds (refusedAs why) h ⌝ }
 {
     Held {
         ordinal: 0,
-        kind: number,
+        kind: why.number() as u8,
         value: 0,
         words: 0,
     }
@@ -73,11 +78,11 @@ fn valued(bytes: &[u8], column: Column, ordinal: u64, words: u64) -> Held
     let slot: Slotted = values::slot_of(section, edition, head.count, fields, ordinal);
     let stored = values::number_in(section, edition, slot);
     let Fetched::Value(value) = values::value_of(section, edition, fields, slot, stored) else {
-        return refused(15);
+        return refused(Refusal::Broken);
     };
     Held {
         ordinal,
-        kind: 0,
+        kind: FOUND,
         value,
         words,
     }
@@ -89,13 +94,13 @@ fn held_in(bytes: &[u8], column: Column, id: u32, met: Step) -> Held
     ensures { λ h. ⌜ Holds (lookUp editions (now (bytes .entry)) id) h ⌝ }
 {
     if !column::id_ok(id) {
-        return refused(14);
+        return refused(Refusal::Id);
     }
     let mark = marks::find(bytes, column, id, met);
     match mark {
         Mark::At { ordinal, words } => valued(bytes, column, ordinal, words),
         Mark::Absent { words } => absent(words),
-        Mark::Broken => refused(15),
+        Mark::Broken => refused(Refusal::Broken),
     }
 }
 
@@ -104,9 +109,9 @@ fn unopened(why: Refusal, id: u32) -> Held
     ensures { λ h. ⌜ ((bytes : List ℕ) → openColumn editions bytes ≡ refusedAs why → Holds (lookUp editions bytes id) h) ⌝ }
 {
     if column::id_ok(id) {
-        return refused(why.number() as u8);
+        return refused(why);
     }
-    refused(14)
+    refused(Refusal::Id)
 }
 
 // ---- the page

@@ -6,19 +6,13 @@ ghost use Prim.Native.Nat.{_≤_};
 ghost use lib.ListN.{length, drop};
 ghost use Rattle.format.specs.Limits.{maxCount};
 ghost use Rattle.format.specs.Pairs.{Each, Fits};
-ghost use Rattle.format.specs.Table.{codeIn, ascends, allIn};
+ghost use Rattle.format.specs.Table.{maxEntries, codeIn, ascends, allIn};
 ghost use Rattle.format.specs.Plan.{planOk, planned, plan};
 ghost use Rattle.format.specs.Writer.{writeReply, writeOut};
 ghost use Rattle.answers.specs.Replies.{replyOf};
 ghost use Rattle.tables.specs.Marks.{marked};
 use answers::Refusal;
 use answers::Reply;
-
-// The most entries of a table.
-pub const MOST: usize = 256;
-
-// The most values of a column.
-const VALUES: usize = 2147352576;
 
 // ---- the small check
 
@@ -48,20 +42,20 @@ fn mark(marks: &mut [u8], table: &[i64], values: &[i64]) -> bool
         × (r ≡ true → now (marks .exit) ≡ marked (now (marks .entry)) (map (codeIn (now (table .entry))) (now (values .entry)))) ⌝ }
 {
     if values.len() < tables::MANY {
-        let mut few = [0u8; 256];
+        let mut few = [0u8; tables::FEW_GUESSES];
         return mark_by(marks, &mut few, table, values);
     }
-    let mut guesses = [0u8; 4096];
+    let mut guesses = [0u8; tables::GUESSES];
     mark_by(marks, &mut guesses, table, values)
 }
 
 // Whether the entries, which ascend, are the values, and no other.
 fn same_members(table: &[i64], values: &[i64]) -> bool
-    requires { ⌜ (ascends (now table) ≡ true) × (length (now table) ≤ 256) ⌝ }
+    requires { ⌜ (ascends (now table) ≡ true) × (length (now table) ≤ maxEntries) ⌝ }
     ensures { λ r. ⌜ (r ≡ true → (allIn (now (table .entry)) (now (values .entry)) ≡ true) × (allIn (now (values .entry)) (now (table .entry)) ≡ true))
         × (r ≡ false → allIn (now (table .entry)) (now (values .entry)) ≡ true → allIn (now (values .entry)) (now (table .entry)) ≡ false) ⌝ }
 {
-    let mut marks = [0u8; 256];
+    let mut marks = [0u8; limits::MAX_ENTRIES];
     if !mark(&mut marks, table, values) {
         return false;
     }
@@ -78,10 +72,10 @@ pub fn accepts(table: &[i64], values: &[i64]) -> bool
     if t == 0 {
         return true;
     }
-    if t < 2 {
+    if t < limits::MIN_ENTRIES {
         return false;
     }
-    if t > MOST {
+    if t > limits::MAX_ENTRIES {
         return false;
     }
     if !tables::ascending(table) {
@@ -110,19 +104,19 @@ fn copy(out: &mut [i64], table: &[i64])
 
 // The plan for the values: a table wherever the small check takes one, else plain, which is no entry. How many entries.
 pub fn plan(out: &mut [i64], values: &[i64]) -> usize
-    requires { ⌜ 256 ≤ length (now out) ⌝ }
-    ensures { λ r. ⌜ (r ≡ length (planned (now (values .entry)))) × (r ≤ 256) × Each Fits (planned (now (values .entry)))
+    requires { ⌜ maxEntries ≤ length (now out) ⌝ }
+    ensures { λ r. ⌜ (r ≡ length (planned (now (values .entry)))) × (r ≤ maxEntries) × Each Fits (planned (now (values .entry)))
         × (now (out .exit) ≡ planned (now (values .entry)) ++ drop (length (planned (now (values .entry)))) (now (out .entry))) ⌝ }
 {
-    if values.len() > VALUES {
+    if values.len() > limits::MAX_COUNT as usize {
         return 0;
     }
-    let mut table = [0i64; 256];
+    let mut table = [0i64; limits::MAX_ENTRIES];
     let t = tables::distinct(&mut table, values);
-    if t < 2 {
+    if t < limits::MIN_ENTRIES {
         return 0;
     }
-    if t > MOST {
+    if limits::MAX_ENTRIES < t {
         return 0;
     }
     if !table_values::saves(&table[..t], numbers::long(values.len())) {
@@ -137,8 +131,8 @@ pub fn propose(out: &mut [i64], values: &[i64]) -> Reply
     ensures replies { λ r. ⌜ replyOf r ≡ writeReply (plan (now (values .entry)) (length (now (out .entry)))) ⌝ }
     ensures proposed { λ _. ⌜ now (out .exit) ≡ writeOut (plan (now (values .entry)) (length (now (out .entry)))) (now (out .entry)) ⌝ }
 {
-    if out.len() < MOST {
-        return Reply::Refused(Refusal::Buffer(256));
+    if out.len() < limits::MAX_ENTRIES {
+        return Reply::Refused(Refusal::Buffer(limits::MAX_ENTRIES as u64));
     }
     Reply::Done(numbers::long(plan(out, values)))
 }

@@ -118,7 +118,7 @@ fn run_ok(rest: &[u8], at: usize, n: usize, g: u64, x: Summary, d: u64) -> Teste
     if x.start != at as u64 {
         return Tested::Bad;
     }
-    if 64 < x.width {
+    if x.width > limits::MAX_WIDTH {
         return Tested::Bad;
     }
     let w = x.width as usize;

@@ -95,7 +95,7 @@ fn reaches(room: usize, start: u64, w: usize, k: usize) -> bool
     requires { ⌜ k < runLength ⌝ }
     ensures { λ r. ⌜ r ≡ reachesIn room start w k ⌝ }
 {
-    if 64 < w {
+    if w > limits::MAX_WIDTH as usize {
         return false;
     }
     if w == 0 {

@@ -13,6 +13,7 @@ ghost use Rattle.format.specs.Judge.{ranksFrom};
 ghost use Rattle.answers.specs.Replies.{orderOf};
 ghost use Rattle.section_check.specs.Reasons.{headThen, wordsReason, blockReason};
 use answers::ByteOrder;
+use answers::Reason;
 use blocks::Block;
 use blocks::data_bytes;
 use numbers::short_in;
@@ -93,10 +94,10 @@ fn words_reason(s: &[u8], t: usize, c: usize, p: usize) -> u64
     let found = count_words(s, t, p);
     let right = found.right;
     if numbers::size(found.ones) != c {
-        return crate::ONES_UNLIKE;
+        return Reason::ONES_UNLIKE;
     }
     if !right {
-        return crate::RANK_WRONG;
+        return Reason::RANK_WRONG;
     }
     0
 }
@@ -107,13 +108,13 @@ fn head_reason(s: &[u8], at: usize, next: u64, k: u64, c: usize, p: usize) -> u6
     ensures { λ r. ⌜ r ≡ headThen p (now (s .entry)) at next k c 0 ⌝ }
 {
     if s.len() - (at + 4) < data_bytes(p, c) {
-        return crate::CUT_OFF;
+        return Reason::CUT_OFF;
     }
     if k < next {
-        return crate::BLOCK_ORDER;
+        return Reason::BLOCK_ORDER;
     }
-    if k > crate::MAX_BLOCK {
-        return crate::BLOCK_ORDER;
+    if k > limits::MAX_BLOCK {
+        return Reason::BLOCK_ORDER;
     }
     0
 }
@@ -135,7 +136,7 @@ pub fn sparse_reason(
         return r;
     }
     if !ascending(s, order, at + 4, c) {
-        return crate::PLACE_ORDER;
+        return Reason::PLACE_ORDER;
     }
     0
 }

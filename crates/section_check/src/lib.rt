@@ -6,12 +6,13 @@ ghost use lib.ListN.{length, take, drop};
 ghost use Rattle.format.specs.Refusals.{done};
 ghost use Rattle.format.specs.Bytes.{same};
 ghost use Rattle.format.specs.Ids.{notTwo};
-ghost use Rattle.format.specs.Limits.{Power, blockPlaces, endNumber};
+ghost use Rattle.format.specs.Limits.{Power, blockPlaces, endNumber, maxBlocks};
 ghost use Rattle.format.specs.Orders.{fixedAt, entryIn};
 ghost use Rattle.format.specs.Judge.{judgeFrom, jumpsIn, judgeEntries, judgeRest, judge};
 ghost use Rattle.answers.specs.Replies.{orderOf};
 ghost use Rattle.section_check.specs.Reasons.{endReason, Walked, Repeats, endedAt, walkOf, entriesOf, verdictOf};
 use answers::ByteOrder;
+use answers::Reason;
 use block::sparse_reason;
 use block::wide_reason;
 use blocks::Block;
@@ -24,26 +25,6 @@ use numbers::size;
 mod block;
 
 pub use block::ascending;
-
-// The block of the greatest id.
-const MAX_BLOCK: u64 = 32765;
-
-// The number of each reason.
-pub const CUT_OFF: u64 = 1;
-
-pub const BLOCK_ORDER: u64 = 2;
-
-pub const PLACE_ORDER: u64 = 3;
-
-pub const ONES_UNLIKE: u64 = 4;
-
-pub const RANK_WRONG: u64 = 5;
-
-pub const END_WRONG: u64 = 6;
-
-pub const JUMP_WRONG: u64 = 7;
-
-pub const LEFT_OVER: u64 = 8;
 
 // Where the walk over the blocks stands: a block's start, the ids before it and the least number that it may have; or a reason and a
 // place.
@@ -70,13 +51,13 @@ fn end_reason(s: &[u8], order: ByteOrder, at: usize) -> u64
     ensures { λ r. ⌜ r ≡ endReason (orderOf order) (now (s .entry)) at ⌝ }
 {
     if s.len() - at < 6 {
-        return CUT_OFF;
+        return Reason::CUT_OFF;
     }
     if short_in(order, s, at + 2) != 0 {
-        return END_WRONG;
+        return Reason::END_WRONG;
     }
     if short_in(order, s, at + 4) != 65535 {
-        return END_WRONG;
+        return Reason::END_WRONG;
     }
     0
 }
@@ -90,7 +71,7 @@ fn sparse_blocks(
     before: u64,
     least: u64,
 ) -> Walk
-    requires { ⌜ (Power p) × (start ≤ length (now s)) × (before ≤ blockPlaces * least) × (least ≤ 32766) ⌝ }
+    requires { ⌜ (Power p) × (start ≤ length (now s)) × (before ≤ blockPlaces * least) × (least ≤ maxBlocks) ⌝ }
     ensures { λ r. ⌜ Walked (orderOf order) p (now (s .entry)) start before least r ⌝ }
 {
     let mut at = start;
@@ -114,7 +95,7 @@ fn sparse_blocks(
         count += c;
         next = k + 1;
     }
-    Walk::Fault(CUT_OFF, at)
+    Walk::Fault(Reason::CUT_OFF, at)
 }
 
 // The blocks, one after the other, up to the end block. Sparse ones have a loop of their own: in one loop with the dense ones they wait for
@@ -149,7 +130,7 @@ fn judge_blocks(s: &[u8], order: ByteOrder, p: usize) -> Walk
         count = before + c;
         next = k + 1;
     }
-    Walk::Fault(CUT_OFF, at)
+    Walk::Fault(Reason::CUT_OFF, at)
 }
 
 fn entry_is(s: &[u8], order: ByteOrder, b: usize, o: u64, at: u64) -> bool
@@ -241,24 +222,24 @@ fn judge_rest(
     let n = size(next) + 1;
     if n == 2 {
         if j != 0 {
-            return Verdict::Faulty(JUMP_WRONG, base);
+            return Verdict::Faulty(Reason::JUMP_WRONG, base);
         }
         if base != s.len() {
-            return Verdict::Faulty(LEFT_OVER, base);
+            return Verdict::Faulty(Reason::LEFT_OVER, base);
         }
         return Verdict::Accepted(count);
     }
     if j != n {
-        return Verdict::Faulty(JUMP_WRONG, base);
+        return Verdict::Faulty(Reason::JUMP_WRONG, base);
     }
     let end = judge_entries(s, order, p, start, count, next);
     match end {
         EntriesEnd::Wrong(b) => {
-            return Verdict::Faulty(JUMP_WRONG, b);
+            return Verdict::Faulty(Reason::JUMP_WRONG, b);
         }
         EntriesEnd::At(b) => {
             if b != s.len() {
-                return Verdict::Faulty(LEFT_OVER, b);
+                return Verdict::Faulty(Reason::LEFT_OVER, b);
             }
             return Verdict::Accepted(count);
         }

@@ -41,10 +41,6 @@ impl SetBlock {
     pub const MAX_LISTED: u64 = 4096;
     // The most ids of a bitmap: with one more, fewer than 4096 are missing.
     pub const MAX_BITMAP: u64 = 61440;
-    // The greatest block number, and the most blocks.
-    pub const MAX_BLOCK: u64 = 32765;
-
-    pub const MAX_BLOCKS: u64 = 32766;
 }
 
 // A block that keeps the rules, or the refusal that its first fault gets.
@@ -196,7 +192,7 @@ fn block_ok(least: u64, block: u64) -> bool
     if block < least {
         return false;
     }
-    block <= SetBlock::MAX_BLOCK
+    block <= limits::MAX_BLOCK
 }
 
 // The block at a place, numbered `least` or above.

@@ -203,7 +203,7 @@ fn walk(s: &[u8], id: u32) -> Walked
     match n {
         Numbered::Refused(why) => Walked::Refused(why),
         Numbered::Is { value, next } => {
-            if value > SetBlock::MAX_BLOCKS {
+            if value > limits::MAX_BLOCKS {
                 return Walked::Refused(Refusal::Damaged);
             }
             walk_blocks(s, next, value, id)

@@ -13,6 +13,7 @@ use Rattle.format.specs.LookUp.{lookUp}
 use Rattle.format.specs.Walk.{Seen, walk, wordless, listed, listAnswer}
 use Rattle.format.specs.SetBytes.{setBytes, setWrite}
 use Rattle.format.specs.SetCalls.{setIds, setCheck, Member, memberAt, noMember, memberIn, setFind, asMember, asSeen}
+use Rattle.format.specs.Lists.{SetOf}
 use Rattle.laws.proofs.Cases.{below-or}
 use Rattle.laws.proofs.Tests.{result, needed, needed-none, passed}
 use Rattle.laws.proofs.RoundTrip.{in-order, in-range}
@@ -54,12 +55,6 @@ written-valid ids room out e =
     (record { ascending = ordered ids (s1 .0); range = ranged 0 ids (s2 .0) }, ap (result out) (s3 .1))
 
 -- ---- accepted exactly if they are the bytes of some list, and of one only
-
-pub record SetOf (bytes : List ℕ) (n : ℕ) : Type 0 where
-  pub ids : List ℕ
-  pub valid : ValidIds ids
-  pub same-bytes : setBytes ids ≡ bytes
-  pub count : length ids ≡ n
 
 pub accepts-sets : (bytes : List ℕ) (n : ℕ) → Below 256 bytes → setCheck bytes ≡ done n → SetOf bytes n
 unfolding setCheck

@@ -1,6 +1,7 @@
 // Signalfern: score columns written, checked, read back, looked up and walked. Each call can be handed any input at all; its promise
 // fixes the reply and every lent buffer afterwards by the definitions of crate format (document 01, and document 02 for what it adds).
 ghost use mathlib.Core.Path.{_≡_};
+ghost use Prim.Native.Nat.{_≤_};
 ghost use lib.ListN.{length};
 ghost use Rattle.format.specs.Writer.{write, writePlanned, writeReply, writeOut};
 ghost use Rattle.format.specs.Plan.{plan};
@@ -9,17 +10,17 @@ ghost use Rattle.format.specs.Refusals.{done};
 ghost use Rattle.format.specs.Editions.{editions};
 ghost use Rattle.format.specs.Opening.{Opened, openColumn};
 ghost use Rattle.format.specs.LookUp.{stepProbes, lookUp, lookUpProbes, lookUpIn};
-ghost use Rattle.format.specs.Walk.{FewWords};
+ghost use Rattle.format.specs.Walk.{strideWords, FewWords};
 ghost use Rattle.format.specs.Page.{placeKind, placeOrdinal, placeValue, page, pageReply, pageAfter};
 ghost use Rattle.format.specs.Next.{next, nextIn, lastAfter};
 ghost use Rattle.format.specs.FirstBetween.{firstBetween, firstBetweenIn};
-ghost use Rattle.format.specs.Layered.{lookUpLayered, lookUpLayeredIn, layeredPart, IsPart};
+ghost use Rattle.format.specs.Layered.{Layer, ofLayer, lookUpLayered, lookUpLayeredIn, layeredPart, IsPart};
 ghost use Rattle.format.specs.SetBytes.{setWrite};
 ghost use Rattle.format.specs.SetCalls.{setCheck, setFind};
 ghost use Rattle.format.specs.Judge.{judgeSection};
 ghost use Rattle.answers.specs.Replies.{replyOf, answerOf, candidateOf, betweenOf, memberOf, Probed, orderOf, judgementOf};
 ghost use Rattle.column.specs.Opened.{columnOf};
-ghost use Rattle.layered.specs.Answers.{layeredOf, partOf};
+ghost use Rattle.layered.specs.Answers.{layeredOf, wordsIn, partOf};
 use answers::Answer;
 use answers::Between;
 use answers::ByteOrder;
@@ -181,10 +182,13 @@ pub fn first_between_in(column: Column, bytes: &[u8], low: i64, high: i64) -> Be
 // ---- a correction column on top of a machine column (document 02, [10])
 
 // Looks one id up in both and prefers the correction. Found and refused name their column, and the ordinal is the one there; words
-// are told for each column apart. A refusal by the correction refuses the call; an id absent there is looked up in the machine
-// column, which is not opened before.
+// are told for each column apart, and are no more than its own rank power allows. A refusal by the correction refuses the call; an id
+// absent there is looked up in the machine column, which is not opened before.
 pub fn look_up_layered(machine: &[u8], correction: &[u8], id: u32) -> Layered
-    ensures { λ r. ⌜ layeredOf r ≡ lookUpLayered editions (now (machine .entry)) (now (correction .entry)) id ⌝ }
+    ensures answers { λ r. ⌜ layeredOf r ≡ lookUpLayered editions (now (machine .entry)) (now (correction .entry)) id ⌝ }
+    ensures words { λ r.
+        ⌜ ((layer : Layer) (c : Opened) → openColumn editions (ofLayer (now (machine .entry)) (now (correction .entry)) layer) ≡ done c
+        → wordsIn layer r ≤ strideWords (c .head .power)) ⌝ }
 {
     layered::look_up_layered(machine, correction, id)
 }
@@ -197,9 +201,11 @@ pub fn look_up_layered_in(
     correction: &[u8],
     id: u32,
 ) -> Layered
-    ensures { λ r.
+    ensures answers { λ r.
         ⌜ layeredOf r
         ≡ lookUpLayeredIn (now (machine .entry)) (columnOf «machine_column») (now (correction .entry)) (columnOf «correction_column») id ⌝ }
+    ensures words { λ r.
+        ⌜ ((layer : Layer) → wordsIn layer r ≤ strideWords (ofLayer (columnOf «machine_column») (columnOf «correction_column») layer .head .power)) ⌝ }
 {
     layered::look_up_layered_in(machine_column, machine, correction_column, correction, id)
 }

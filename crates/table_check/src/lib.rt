@@ -4,8 +4,9 @@ ghost use mathlib.Core.Bool.{true};
 ghost use mathlib.Core.List.{_++_};
 ghost use Prim.Native.Nat.{_*_, _≤_};
 ghost use lib.ListN.{length, drop};
-ghost use Rattle.format.specs.Limits.{maxCount};
+ghost use Rattle.format.specs.Limits.{maxCount, maxWidth};
 ghost use Rattle.format.specs.Bits.{unpacked, packedBytes};
+ghost use Rattle.format.specs.Table.{maxEntries};
 ghost use Rattle.format.specs.Editions.{table, codec};
 ghost use Rattle.answers.specs.Replies.{fieldsOf};
 ghost use Rattle.tables.specs.Marks.{marked};
@@ -28,7 +29,7 @@ fn read_table(table: &mut [i64], section: &[u8], t: usize)
 
 // Sets a mark at each code's place. Whether each is below t.
 fn mark_codes(marks: &mut [u8], codes: &[u8], w: usize, n: usize, t: usize) -> bool
-    requires { ⌜ (w ≤ 64) × (n * w ≤ 8 * length (now codes)) × (t ≤ length (now marks)) ⌝ }
+    requires { ⌜ (w ≤ maxWidth) × (n * w ≤ 8 * length (now codes)) × (t ≤ length (now marks)) ⌝ }
     ensures { λ r. ⌜ (r ≡ belowAll t (unpacked w n (now (codes .entry))))
         × (r ≡ true → now (marks .exit) ≡ marked (now (marks .entry)) (unpacked w n (now (codes .entry)))) ⌝ }
 {
@@ -52,14 +53,14 @@ fn mark_codes(marks: &mut [u8], codes: &[u8], w: usize, n: usize, t: usize) -> b
 
 // Whether the spare bits are 0, each code is below t, and each number below t is a code.
 fn codes_ok(codes: &[u8], n: usize, w: usize, t: usize) -> bool
-    requires { ⌜ (w ≤ 8) × (n ≤ maxCount) × (length (now codes) ≡ packedBytes n w) × (t ≤ 256) ⌝ }
+    requires { ⌜ (w ≤ 8) × (n ≤ maxCount) × (length (now codes) ≡ packedBytes n w) × (t ≤ maxEntries) ⌝ }
     ensures { λ r. ⌜ r ≡ codesOk n w t (now (codes .entry)) ⌝ }
 {
     let spare = 8 * codes.len() - n * w;
     if !packings::spare_ok(codes, Order::High, spare) {
         return false;
     }
-    let mut marks = [0u8; 256];
+    let mut marks = [0u8; limits::MAX_ENTRIES];
     if !mark_codes(&mut marks, codes, w, n, t) {
         return false;
     }
@@ -72,7 +73,7 @@ pub fn values_ok(section: &[u8], n: u64, fields: Fields) -> bool
     ensures { λ r. ⌜ r ≡ valuesOk n (fieldsOf fields) (now (section .entry)) ⌝ }
 {
     let t = numbers::size(fields.divisor);
-    let mut table = [0i64; 256];
+    let mut table = [0i64; limits::MAX_ENTRIES];
     read_table(&mut table, section, t);
     if !tables::ascending(&table[..t]) {
         return false;

@@ -11,7 +11,7 @@ ghost use Rattle.format.specs.Limits.{maxCount};
 ghost use Rattle.format.specs.Bytes.{lowAt, untwos};
 ghost use Rattle.format.specs.Bits.{packedBytes};
 ghost use Rattle.format.specs.Pairs.{Each, Fits};
-ghost use Rattle.format.specs.Table.{codeWidth, tableFields, tableBytes, valueShare};
+ghost use Rattle.format.specs.Table.{maxEntries, codeWidth, tableFields, tableBytes, valueShare};
 ghost use Rattle.format.specs.Editions.{table, codec};
 ghost use Rattle.format.specs.Check.{allValues};
 ghost use Rattle.answers.specs.Replies.{fieldsOf, fetchedOf};
@@ -25,7 +25,7 @@ use scaled_values::Slotted;
 
 // The least width for the last code of t entries.
 pub fn code_width(t: u64) -> u64
-    requires { ⌜ (1 ≤ t) × (t ≤ 256) ⌝ }
+    requires { ⌜ (1 ≤ t) × (t ≤ maxEntries) ⌝ }
     ensures { λ r. ⌜ (r ≡ codeWidth t) × (r ≤ 8) ⌝ }
 {
     packings::width_for(Order::High, t - 1)
@@ -33,7 +33,7 @@ pub fn code_width(t: u64) -> u64
 
 // What the header says of a table of t entries.
 pub fn fields_of(t: u64) -> Fields
-    requires { ⌜ (1 ≤ t) × (t ≤ 256) ⌝ }
+    requires { ⌜ (1 ≤ t) × (t ≤ maxEntries) ⌝ }
     ensures { λ r. ⌜ fieldsOf r ≡ tableFields t ⌝ }
 {
     Fields {
@@ -45,7 +45,7 @@ pub fn fields_of(t: u64) -> Fields
 
 // The bytes of a table of t entries and of n codes.
 pub fn bytes_of(t: u64, n: u64) -> u64
-    requires { ⌜ (1 ≤ t) × (t ≤ 256) × (n ≤ maxCount) ⌝ }
+    requires { ⌜ (1 ≤ t) × (t ≤ maxEntries) × (n ≤ maxCount) ⌝ }
     ensures { λ r. ⌜ (r ≡ tableBytes t n) × (r ≤ 2048 + 8 * n) ⌝ }
 {
     8 * t + packing::packed_bytes(n, code_width(t))
@@ -57,10 +57,10 @@ pub fn rules(fields: Fields, packed: u64, v: u64) -> bool
     ensures { λ r. ⌜ ((n : ℕ) → packed ≡ packedBytes n (fields .width) → r ≡ codec table .fieldsOk n (fieldsOf fields) v) ⌝ }
 {
     let t = fields.divisor;
-    if t < 2 {
+    if t < limits::MIN_ENTRIES as u64 {
         return false;
     }
-    if t > 256 {
+    if t > limits::MAX_ENTRIES as u64 {
         return false;
     }
     if fields.width != code_width(t) {
@@ -82,7 +82,7 @@ pub fn entry(section: &[u8], k: usize) -> i64
 
 // Step 7: where the code of ordinal i stands, after a table of t entries; nothing stands above a smallest value.
 pub fn slot_at(w: u64, t: u64, i: u64) -> Slotted
-    requires { ⌜ t ≤ 256 ⌝ }
+    requires { ⌜ t ≤ maxEntries ⌝ }
     ensures { λ r. ⌜ r ≡ codeSlot w t i ⌝ }
 {
     Slotted::At(Slot {
@@ -143,7 +143,7 @@ fn share(fields: Fields, v: u64) -> u64
 
 // Whether the column of n values that are those of the table is shorter with the table than in edition 1.
 pub fn saves(table: &[i64], n: u64) -> bool
-    requires { ⌜ (1 ≤ length (now table)) × (length (now table) ≤ 256) × (n ≤ maxCount) ⌝ }
+    requires { ⌜ (1 ≤ length (now table)) × (length (now table) ≤ maxEntries) × (n ≤ maxCount) ⌝ }
     ensures { λ r. ⌜ (r ≡ saves (now (table .entry)) n) × Each Fits (now (table .entry)) ⌝ }
 {
     let t = numbers::long(table.len());

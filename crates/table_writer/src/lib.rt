@@ -7,7 +7,7 @@ ghost use lib.ListN.{length, drop};
 ghost use lib.Seq.{sets};
 ghost use Rattle.format.specs.Bytes.{bytesOf};
 ghost use Rattle.format.specs.Bits.{packed, packedBytes};
-ghost use Rattle.format.specs.Table.{codeIn, codeWidth, tableEntry, tableSection, ascends, allIn};
+ghost use Rattle.format.specs.Table.{maxEntries, codeIn, codeWidth, tableEntry, tableSection, ascends, allIn};
 
 // Writes the table to the front of out.
 fn put_entries(out: &mut [u8], table: &[i64])
@@ -24,7 +24,7 @@ fn put_entries(out: &mut [u8], table: &[i64])
 
 // Writes a code for each value to the front of out.
 fn put_codes_by(out: &mut [u8], guesses: &mut [u8], table: &[i64], values: &[i64])
-    requires { ⌜ (1 ≤ length (now table)) × (length (now table) ≤ 256) × (ascends (now table) ≡ true) × (allIn (now table) (now values) ≡ true)
+    requires { ⌜ (1 ≤ length (now table)) × (length (now table) ≤ maxEntries) × (ascends (now table) ≡ true) × (allIn (now table) (now values) ≡ true)
         × (packedBytes (length (now values)) (codeWidth (length (now table))) ≤ length (now out))
         × (1 ≤ length (now guesses)) × (length (now guesses) ≤ 4096) ⌝ }
     ensures { λ _. ⌜ now (out .exit) ≡ packed (codeWidth (length (now (table .entry)))) (map (codeIn (now (table .entry))) (now (values .entry)))
@@ -47,24 +47,24 @@ fn put_codes_by(out: &mut [u8], guesses: &mut [u8], table: &[i64], values: &[i64
 
 // The same, with guesses of its own.
 fn put_codes(out: &mut [u8], table: &[i64], values: &[i64])
-    requires { ⌜ (1 ≤ length (now table)) × (length (now table) ≤ 256) × (ascends (now table) ≡ true) × (allIn (now table) (now values) ≡ true)
+    requires { ⌜ (1 ≤ length (now table)) × (length (now table) ≤ maxEntries) × (ascends (now table) ≡ true) × (allIn (now table) (now values) ≡ true)
         × (packedBytes (length (now values)) (codeWidth (length (now table))) ≤ length (now out)) ⌝ }
     ensures { λ _. ⌜ now (out .exit) ≡ packed (codeWidth (length (now (table .entry)))) (map (codeIn (now (table .entry))) (now (values .entry)))
         ++ drop (packedBytes (length (now (values .entry))) (codeWidth (length (now (table .entry))))) (now (out .entry)) ⌝ }
 {
     if values.len() < tables::MANY {
-        let mut few = [0u8; 256];
+        let mut few = [0u8; tables::FEW_GUESSES];
         put_codes_by(out, &mut few, table, values);
         return;
     }
-    let mut guesses = [0u8; 4096];
+    let mut guesses = [0u8; tables::GUESSES];
     put_codes_by(out, &mut guesses, table, values);
 }
 
 // Writes the value section to the front of out, the part of the output that starts where the section starts. The table ascends and holds every
 // value.
 pub fn put(out: &mut [u8], table: &[i64], values: &[i64])
-    requires { ⌜ (1 ≤ length (now table)) × (length (now table) ≤ 256) × (ascends (now table) ≡ true) × (allIn (now table) (now values) ≡ true)
+    requires { ⌜ (1 ≤ length (now table)) × (length (now table) ≤ maxEntries) × (ascends (now table) ≡ true) × (allIn (now table) (now values) ≡ true)
         × (length (tableSection (now table) (now values)) ≤ length (now out)) ⌝ }
     ensures { λ _. ⌜ now (out .exit) ≡ tableSection (now (table .entry)) (now (values .entry))
         ++ drop (length (tableSection (now (table .entry)) (now (values .entry)))) (now (out .entry)) ⌝ }

@@ -59,8 +59,12 @@ pub fn ascending(table: &[i64]) -> bool
 
 // ---- guesses
 
-// From so many values on a list has 4096 guesses; a shorter one has 256, since they are cleared first.
+// From so many values on a list has all the guesses; a shorter one has few, since they are cleared first.
 pub const MANY: usize = 128;
+
+pub const GUESSES: usize = 4096;
+
+pub const FEW_GUESSES: usize = 256;
 
 // The slot, of m, that has the guess for a value: each half of its biased form times an odd number, so that values of any pattern spread.
 fn slot_of(b: u64, m: usize) -> usize
@@ -152,10 +156,10 @@ pub fn distinct(table: &mut [i64], values: &[i64]) -> usize
     ensures { λ r. ⌜ Holds (length (now (table .entry))) (tableOf (now (values .entry))) r (now (table .exit)) ⌝ }
 {
     if values.len() < MANY {
-        let mut few = [0u8; 256];
+        let mut few = [0u8; FEW_GUESSES];
         return gathered(table, &mut few, values);
     }
-    let mut guesses = [0u8; 4096];
+    let mut guesses = [0u8; GUESSES];
     gathered(table, &mut guesses, values)
 }
 

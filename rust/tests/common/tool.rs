@@ -2,6 +2,7 @@
 
 use std::fs;
 use std::io::Write;
+use std::os::unix::fs::PermissionsExt;
 use std::os::unix::process::ExitStatusExt;
 use std::path::{Path, PathBuf};
 use std::process::{Command, Output, Stdio};
@@ -131,10 +132,39 @@ impl Folder {
     }
 }
 
-/// Whether a program is there that a test can do without.
+/// Whether a program is there that a part of a test can do without.
 pub fn has_program(name: &str) -> bool {
     let found = Command::new("sh")
         .args(["-c", "command -v \"$0\"", name])
         .output();
     found.is_ok_and(|output| output.status.success())
+}
+
+/// Whether the programs are there that a whole test needs. Where one is not, the test is passed over and
+/// says so: in a line of the file that `SIGNALFERN_SKIPPED` names, which the gate counts, or else on
+/// standard error.
+pub fn has_programs(names: &[&str]) -> bool {
+    let Some(missing) = names.iter().find(|name| !has_program(name)) else {
+        return true;
+    };
+    let test = std::thread::current();
+    let line = format!(
+        "skipped: {}: no {missing}\n",
+        test.name().unwrap_or_default()
+    );
+    match std::env::var_os("SIGNALFERN_SKIPPED") {
+        Some(path) => {
+            let mut told = fs::OpenOptions::new();
+            let mut told = told.create(true).append(true).open(path).unwrap();
+            told.write_all(line.as_bytes()).unwrap();
+        }
+        None => eprint!("{line}"),
+    }
+    false
+}
+
+/// A shell script that can be run.
+pub fn script(path: &Path, body: &str) {
+    fs::write(path, format!("#!/bin/sh\n{body}\n")).unwrap();
+    fs::set_permissions(path, fs::Permissions::from_mode(0o755)).unwrap();
 }

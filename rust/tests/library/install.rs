@@ -1,30 +1,20 @@
 //! `make install`: what it puts where, and C and C++ programs that find it by pkg-config.
 //!
-//! Both programs are more than the README's commands need, so without `make` or `pkg-config` there
-//! is nothing to test.
+//! Both programs are more than the README's commands need, so without `make` or `pkg-config` these
+//! tests are passed over.
 
 use std::collections::BTreeSet;
 use std::fs;
-use std::os::unix::fs::PermissionsExt;
 use std::path::{Path, PathBuf};
 use std::process::{Command, Output};
 
-use crate::common::tool::Folder;
+use crate::common::tool::{has_program, has_programs, script, Folder};
 use signalfern::{Reason, Refusal};
 
 const VERSION: &str = env!("CARGO_PKG_VERSION");
 
 fn root() -> PathBuf {
     Path::new(env!("CARGO_MANIFEST_DIR")).join("..")
-}
-
-/// Whether a program can be run at all.
-fn there(program: &str) -> bool {
-    let there = Command::new(program).arg("--version").output().is_ok();
-    if !there {
-        eprintln!("{program} is not installed: not tested with it");
-    }
-    there
 }
 
 #[track_caller]
@@ -55,11 +45,6 @@ fn make(folder: &Folder, words: &[&str], tool: &str) -> String {
         .output()
         .unwrap();
     succeeded(output)
-}
-
-fn script(path: &Path, body: &str) {
-    fs::write(path, format!("#!/bin/sh\n{body}\n")).unwrap();
-    fs::set_permissions(path, fs::Permissions::from_mode(0o755)).unwrap();
 }
 
 /// The files and links below a folder.
@@ -144,7 +129,7 @@ fn check_printed(printed: &str) {
 
 #[test]
 fn programs_find_the_library_by_pkg_config() {
-    if !there("make") || !there("pkg-config") {
+    if !has_programs(&["make", "pkg-config"]) {
         return;
     }
     let folder = Folder::new("install");
@@ -161,7 +146,7 @@ fn programs_find_the_library_by_pkg_config() {
     let ways: [(&str, Vec<String>); 2] = [("dynamic", flags.clone()), ("static", bound("static"))];
     let languages = [&["-x", "c", "-std=c99"][..], &["-x", "c++", "-std=c++17"]];
     for compiler in ["gcc", "clang"] {
-        if compiler == "clang" && !there(compiler) {
+        if compiler == "clang" && !has_program(compiler) {
             continue;
         }
         for language in languages {
@@ -185,7 +170,7 @@ fn programs_find_the_library_by_pkg_config() {
 
 #[test]
 fn the_shared_library_shows_what_the_header_declares() {
-    if !there("make") {
+    if !has_programs(&["make"]) {
         return;
     }
     let folder = Folder::new("install-symbols");
@@ -233,7 +218,7 @@ fn the_shared_library_shows_what_the_header_declares() {
 
 #[test]
 fn staged_and_taken_away() {
-    if !there("make") {
+    if !has_programs(&["make"]) {
         return;
     }
     let folder = Folder::new("install-staged");

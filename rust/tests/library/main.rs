@@ -1,5 +1,5 @@
 //! The library's calls beside the reference, the documents' cases and columns worked out by hand; C
-//! programs, the examples and the installation. (One program for all: what they share is compiled once,
+//! programs, the examples, the installation and the gate. (One program for all: what they share is compiled once,
 //! and the proved archive is linked once.)
 
 #[path = "../common/mod.rs"]
@@ -19,6 +19,7 @@ mod examples;
 mod fetching;
 mod fields;
 mod format_page;
+mod gate;
 mod header;
 mod install;
 mod layered;
@@ -30,6 +31,7 @@ mod page;
 mod pairs;
 mod plans;
 mod probes;
+mod promises;
 mod runs;
 mod runs_damage;
 mod section;

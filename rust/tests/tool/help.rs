@@ -2,7 +2,7 @@
 
 use std::process::Command;
 
-use crate::common::tool::{has_program, run, Folder};
+use crate::common::tool::{has_program, has_programs, run, Folder};
 
 const COMMANDS: [&str; 12] = [
     "write", "check", "read", "look-up", "next", "find", "audit", "show", "judge", "set", "demo",
@@ -105,9 +105,14 @@ fn the_man_page() {
     for command in COMMANDS {
         assert!(page.contains(&command.replace('-', "\\-")), "{command}");
     }
-    if !has_program("groff") {
+}
+
+#[test]
+fn the_man_page_as_groff_sets_it() {
+    if !has_programs(&["groff"]) {
         return;
     }
+    let page = run(&["help", "--man"]).expect(0, &[]).out;
     let folder = Folder::new("man");
     let path = folder.put("signalfern.1", page);
     let output = Command::new("groff")

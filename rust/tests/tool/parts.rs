@@ -3,7 +3,7 @@
 use std::time::{Duration, Instant};
 
 use crate::common::parts::Parts;
-use crate::common::tool::{has_program, run, Folder};
+use crate::common::tool::{has_program, has_programs, run, Folder};
 use crate::common::{ids_of, values_of_width, Random};
 use signalfern::Edition;
 
@@ -180,7 +180,7 @@ fn on_terminal(folder: &Folder, before: &str, words: &str) -> String {
 
 #[test]
 fn progress_goes_to_a_terminal() {
-    if !has_program("script") {
+    if !has_programs(&["script"]) {
         return;
     }
     let folder = Folder::new("progress");
@@ -217,7 +217,7 @@ fn progress_goes_to_a_terminal() {
 /// A column that comes slowly shows how far it is.
 #[test]
 fn progress_of_a_loading() {
-    if !has_program("script") {
+    if !has_programs(&["script"]) {
         return;
     }
     let folder = Folder::new("progress_loading");

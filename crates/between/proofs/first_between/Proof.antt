@@ -1,18 +1,25 @@
 -- `between::first_between` meets its contract: an opened column is asked as it is. Assumes nothing.
-use Rattle.format.specs.Kit.{sym, ap₂, _∙_, ℤ, needs}
-use Rattle.format.specs.Editions.{editions}
-use Rattle.format.specs.FirstBetween.{firstBetweenIn}
-use Rattle.laws.proofs.FirstBetween.{opened-between, between-says}
+use Rattle.format.specs.Kit.{_≡_, sym, ap₂, _∙_, List, [], _∷_, ℕ, ℤ, needs}
+use Rattle.format.specs.Refusals.{refused, andThen}
+use Rattle.format.specs.Editions.{runs, editions}
+use Rattle.format.specs.Opening.{openColumn}
+use Rattle.format.specs.FirstBetween.{firstBetween, firstBetweenIn}
+use Rattle.laws.proofs.FirstBetween.{opened-between}
 use Rattle.signed.proofs.Signs.{read-back}
 use Rattle.column.specs.Opened.{columnOf}
 use Rattle.column.proofs.Facts.{opened-as, refused-as}
 use Rattle.between.proofs.first_between.Statement.{statement}
 use Rattle.between.proofs.first_between.Tie as tie
 
+-- what opening refuses, the question refuses
+not-opened : (bytes : List ℕ) (a b : ℤ) (why w : ℕ) → openColumn (runs ∷ []) bytes ≡ refused why w → firstBetween bytes a b ≡ refused why w
+unfolding firstBetween andThen
+not-opened bytes a b why w e = rw e
+
 returns : tie.Need-returns
 returns c =
     let a = c .before .before .before .args in
-    sym (between-says (a .bytes .now) (a .low) (a .high) _ _ (rw (c .if1 .taken) at (c .before .other-edition .ensures)))
+    sym (not-opened (a .bytes .now) (a .low) (a .high) _ _ (rw (c .if1 .taken) at (c .before .other-edition .ensures)))
 
 returns-2 : tie.Need-returns-2
 returns-2 c =
@@ -20,7 +27,7 @@ returns-2 c =
     let a = g .before .before .before .args in
     let o = c .before .before .before .«open» in
     let k = c .before .opened .given in
-    sym (between-says (a .bytes .now) (a .low) (a .high) _ _
+    sym (not-opened (a .bytes .now) (a .low) (a .high) _ _
     ((rw (g .if1 .left) at (g .before .other-edition .ensures)) ∙ refused-as (a .bytes .now) (o .result) (k .0 .0) (o .ensures) (k .1)))
 
 returns-3 : tie.Need-returns-3

@@ -26,7 +26,7 @@ returns c =
     let i = c .before .before in
     let a = i .before .before .args in
     subst (λ (x : Outcome Look). Holds x (c .refused .result))
-    (sym (id-above (a .bytes .now) (a .id) (sym (i .id-ok .ensures) ∙ not-true _ (c .before .if1 .taken)))) (c .refused .ensures 0)
+    (sym (id-above (a .bytes .now) (a .id) (sym (i .id-ok .ensures) ∙ not-true _ (c .before .if1 .taken)))) (c .refused .ensures)
 
 find-requires : tie.Need-find-requires
 find-requires c κs =
@@ -59,7 +59,7 @@ returns-4 c =
     let f = c .before .before .before in
     let a = f .before .before .before .before .args in
     subst (λ (x : Outcome Look). Holds x (c .refused2 .result))
-    (ap (marked (a .bytes .now) (columnOf (a .column))) (sym (c .before .enum-told .given .1)) ∙ left f) (c .refused2 .ensures 0)
+    (ap (marked (a .bytes .now) (columnOf (a .column))) (sym (c .before .enum-told .given .1)) ∙ left f) (c .refused2 .ensures)
 
 pub held-in-spec : {M : Type 1} → statement M
 held-in-spec =

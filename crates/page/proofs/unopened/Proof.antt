@@ -1,35 +1,29 @@
 -- `page::unopened` meets its contract. Assumes nothing.
-use Rattle.format.specs.Kit.{needs, sym, ap, _∙_, subst, arith}
-use Rattle.format.specs.Refusals.{Outcome, refused}
+use Rattle.format.specs.Kit.{needs, sym, _∙_, subst}
+use Rattle.format.specs.Refusals.{Outcome}
 use Rattle.format.specs.LookUp.{Look}
-use Rattle.answers.specs.Replies.{refusalWith}
 use Rattle.lookup.proofs.Calls.{id-above, not-opened}
 use Rattle.page.specs.Placed.{Holds}
-use Rattle.page.proofs.Pages.{number-small}
 use Rattle.page.proofs.unopened.Statement.{statement}
 use Rattle.page.proofs.unopened.Tie as tie
 
 returns : tie.Need-returns
 returns c bytes o =
-    let i = c .before .before .before in
+    let i = c .before .before in
     let a = i .before .args in
     subst (λ (x : Outcome Look). Holds x (c .refused .result))
-    (ap {B = Outcome Look} (λ k. refused k (refusalWith (a .why))) (c .before .number .ensures)
-    ∙ sym (not-opened bytes (a .id) (sym (i .id-ok .ensures) ∙ c .before .before .if1 .taken) (a .why) o))
-    (c .refused .ensures (refusalWith (a .why)))
+    (sym (not-opened bytes (a .id) (sym (i .id-ok .ensures) ∙ c .before .if1 .taken) (a .why) o)) (c .refused .ensures)
 
 returns-2 : tie.Need-returns-2
 returns-2 c bytes o =
     let i = c .before .before in
     subst (λ (x : Outcome Look). Holds x (c .refused2 .result))
-    (sym (id-above bytes (i .before .args .id) (sym (i .id-ok .ensures) ∙ c .before .if1 .left))) (c .refused2 .ensures 0)
+    (sym (id-above bytes (i .before .args .id) (sym (i .id-ok .ensures) ∙ c .before .if1 .left))) (c .refused2 .ensures)
 
 pub unopened-spec : {M : Type 1} → statement M
 unopened-spec =
     tie.close (tie.spec
     (λ c κs. search needs) (λ c κs. search needs)
-    (λ c. record { fits = omega (arith, c .number .ensures, number-small (c .before .before .before .args .why)) })
-    (λ c κs. search needs)
     returns
     (λ c κs. search needs)
     returns-2)

@@ -43,7 +43,7 @@ returns : tie.Need-returns
 returns c =
     let v = c .before .before .before in
     subst (λ (x : Outcome Look). Holds x (c .refused .result)) (sym (value-outside _ _ (v .value-of .result) (read v) (c .before .enum-told .given .1)))
-    (c .refused .ensures 0)
+    (c .refused .ensures)
 
 returns-2 : tie.Need-returns-2
 unfolding placeOrdinal placeValue placeKind placeWords

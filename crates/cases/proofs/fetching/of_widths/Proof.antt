@@ -4,12 +4,12 @@ use Rattle.cases.proofs.fetching.of_widths.Statement.{statement}
 use Rattle.cases.proofs.fetching.of_widths.Tie as tie
 
 abbrev Inv-loop : tie.InvT-loop
-Inv-loop s t₀ k₀ t k = Unit {0}
+Inv-loop s order t₀ k₀ t k = Unit {0}
 
 abbrev μ-loop : tie.MeasureT-loop
-μ-loop s t₀ k₀ t k = 1105 - k
+μ-loop s order t₀ k₀ t k = 1105 - k
 
 pub of-widths-spec : {M : Type 1} → statement M
 of-widths-spec =
     tie.close (tie.spec Inv-loop μ-loop
-    (λ c. search needs) (λ c κs. search needs) (λ c κs. search needs) (λ c. search needs) (λ c. search needs) (λ c. search needs) (λ c. search needs))
+    (λ c. search needs) (λ c κs. search needs) (λ c. search needs) (λ c. search needs) (λ c. search needs) (λ c. search needs))

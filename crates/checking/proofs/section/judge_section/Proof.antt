@@ -1,12 +1,13 @@
 -- `checking::section::judge_section` meets its contract. Assumes nothing.
 use Rattle.format.specs.Kit.{_≡_, sym, ap, ap₂, _∙_, subst, ℕ, arith, needs, not-true, not-false}
 use Rattle.format.specs.Limits.{Power}
-use Rattle.format.specs.Refusals.{Outcome, refused}
-use Rattle.format.specs.Judge.{judgeSection}
+use Rattle.format.specs.Refusals.{Outcome, done}
+use Rattle.format.specs.Judge.{Verdict, faulty, asVerdict, judgeSection}
 use Rattle.answers.specs.Replies.{orderOf}
 use Rattle.laws.proofs.Rules.{power-fact}
 use Rattle.judge.proofs.Reasons.{numbered}
 use Rattle.section_check.specs.Reasons.{verdictOf}
+use Rattle.section_check.specs.declared.Verdict as Ve
 use Rattle.checking.proofs.Bare.{power-outside, count-outside, limits-kept}
 use Rattle.checking.proofs.section.judge_section.Statement.{statement}
 use Rattle.checking.proofs.section.judge_section.Tie as tie
@@ -17,12 +18,15 @@ judge-requires c κs =
     subst Power (sym (c .before .size .ensures)) (power-fact _ (sym (q .power-ok .ensures) ∙ not-false _ (c .before .before .before .if1 .left)))
 
 -- what the judge says is the definition's
+abbrev said : Ve.Verdict → Outcome Verdict
+said v = done (asVerdict (verdictOf v))
+
 judged : (c : tie.After-judge)
     → let a = c .before .before .before .before .before .before .before .args in
-    verdictOf (c .judge .result) ≡ judgeSection (orderOf (a .order)) (a .power) (a .jump-count) (a .bytes .now)
+    said (c .judge .result) ≡ judgeSection (orderOf (a .order)) (a .power) (a .jump-count) (a .bytes .now)
 judged c =
     let q = c .before .before .before .before .before in
-    c .judge .ensures
+    ap {B = Outcome Verdict} (λ (x : Outcome ℕ). done (asVerdict x)) (c .judge .ensures)
     ∙ limits-kept _ _ _ _ (sym (q .power-ok .ensures) ∙ not-false _ (c .before .before .before .before .if1 .left)) (omega arith) _ _
     (c .before .before .size .ensures) (c .before .size2 .ensures)
 
@@ -34,8 +38,8 @@ reason-of-requires c κs =
 returns-4 : tie.Need-returns-4
 returns-4 c =
     let w = c .before .before .before in
-    ap₂ {C = Outcome ℕ} (λ (x y : ℕ). refused x y) (c .before .reason-of .ensures) (c .long .ensures)
-    ∙ ap verdictOf (sym (w .why .given .1)) ∙ judged (w .before .before)
+    ap₂ {C = Outcome Verdict} (λ (x y : ℕ). done (faulty x y)) (c .before .reason-of .ensures) (c .long .ensures)
+    ∙ ap said (sym (w .why .given .1)) ∙ judged (w .before .before)
 
 pub judge-section-spec : {M : Type 1} → statement M
 judge-section-spec =
@@ -48,5 +52,5 @@ judge-section-spec =
     (λ c. search needs) (λ c. search needs)
     reason-of-requires
     (λ c κs. search needs)
-    (λ c. ap verdictOf (sym (c .before .n .given .1)) ∙ judged (c .before .before .before))
+    (λ c. ap said (sym (c .before .n .given .1)) ∙ judged (c .before .before .before))
     returns-4)

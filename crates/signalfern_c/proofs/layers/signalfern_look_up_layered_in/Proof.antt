@@ -13,7 +13,7 @@ returns c =
     let below = c .before .before .before .column-in in
     let a = c .before .before .before .before .before .before .args in
     c .layered-c .ensures
-    ∙ ap layeredC (l .ensures
+    ∙ ap layeredC (l .ensures .0
     ∙ ap₂ (λ (x y : Opened). lookUpLayeredIn (a .machine .now) x (a .correction .now) y (a .id)) (below .ensures) (above .ensures))
 
 pub signalfern-look-up-layered-in-spec : {M : Type 1} → statement M

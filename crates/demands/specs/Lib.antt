@@ -1,0 +1,3 @@
+-- The demands' own terms, and the tables of the calls of document 02.
+pub mod Terms
+pub mod Tables
