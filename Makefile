@@ -1,13 +1,19 @@
 # Builds and installs the library for C, and the tool.
 #
 #   make                    build all of it under target/package
+#   make check              try what was built: C programs against archive and shared library
 #   make install            into /usr/local; prefix=DIR for elsewhere, DESTDIR=DIR for packagers
 #   make install-library    the library alone: no cargo needed
 #   make uninstall          take away what `make install` put there
+#   make deb                Debian packages of library, header and tool, under target/package
 #
-# The proved archive is made by `rt staticlib signalfern_c`. With SIGNALFERN_LIB_DIR=DIR the
-# libsignalfern_c.a in that folder is taken as it is, and `rt` is not needed. With TOOL=FILE a tool
-# that was built before is installed, and `cargo` is not needed.
+# The calls are assembled from dist/, which was made from the proved library: this needs a C compiler
+# and no Rattle kit. On x86-64 the shared library is built twice, for every processor and for
+# x86-64-v3; the loader takes the second by itself where the processor has that level.
+#
+# With PROVE=1 `rt` proves the library and builds it from its source. With SIGNALFERN_LIB_DIR=DIR the
+# libsignalfern_c.a in that folder is taken as it is. With TOOL=FILE a tool that was built before is
+# installed, and `cargo` is not needed.
 
 PREFIX = /usr/local
 prefix = $(PREFIX)
@@ -18,6 +24,8 @@ includedir = $(prefix)/include
 datarootdir = $(prefix)/share
 mandir = $(datarootdir)/man
 pkgconfigdir = $(libdir)/pkgconfig
+# Where glibc's loader looks first, by what the processor has.
+hwcapsdir = $(libdir)/glibc-hwcaps
 bashdir = $(datarootdir)/bash-completion/completions
 zshdir = $(datarootdir)/zsh/site-functions
 fishdir = $(datarootdir)/fish/vendor_completions.d
@@ -34,21 +42,38 @@ VERSION := $(MAJOR).$(MINOR).$(call version_part,PATCH)
 SONAME := libsignalfern.so.$(if $(filter 0,$(MAJOR)),0.$(MINOR),$(MAJOR))
 SHARED := libsignalfern.so.$(VERSION)
 
-all: library $(BUILD)/tool
-library: $(BUILD)/libsignalfern.a $(BUILD)/$(SHARED) $(BUILD)/signalfern.pc
-.PHONY: all library install install-library install-tool uninstall clean FORCE
+# The file of dist/ for a machine, as the compiler names it, and the level that gets a library of its own.
+PROCESSOR := $(patsubst x86_64,x86-64,$(firstword $(subst -, ,$(shell $(CC) -dumpmachine))))
+LEVEL = $(if $(or $(SIGNALFERN_LIB_DIR),$(filter-out 0,$(PROVE))),,$(filter x86-64-v3,$(PROCESSOR)-v3))
 
-ifdef SIGNALFERN_LIB_DIR
+all: library $(BUILD)/tool
+library: $(BUILD)/libsignalfern.a $(BUILD)/$(SHARED) $(LEVEL:%=$(BUILD)/%/$(SHARED)) $(BUILD)/signalfern.pc
+.PHONY: all library check install install-library install-tool uninstall deb clean FORCE
+
+ifneq ($(SIGNALFERN_LIB_DIR),)
 ARCHIVE = $(SIGNALFERN_LIB_DIR)/libsignalfern_c.a
-else
+else ifneq ($(filter-out 0,$(PROVE)),)
 ARCHIVE = target/staticlib/libsignalfern_c.a
 $(ARCHIVE): crates.txt $(shell find crates -name '*.rt' -o -name '*.antt')
+	@command -v rt >/dev/null || { echo 'rt is not on the path: proving needs the Rattle kit. Without PROVE=1, dist/ is taken.' >&2; exit 1; }
 	rt check signalfern
 	rt staticlib signalfern_c
+else
+ARCHIVE = $(BUILD)/$(PROCESSOR)/libsignalfern_c.a
 endif
 
+# Assembled from dist/.
+$(BUILD)/%/libsignalfern_c.a: dist/signalfern-%.s
+	@mkdir -p $(@D)
+	$(CC) -c $< -o $(@D)/calls.o
+	rm -f $@
+	$(AR) rcs $@ $(@D)/calls.o
+
+dist/signalfern-%.s:
+	@echo 'dist/ has nothing for $*: set SIGNALFERN_LIB_DIR to a folder with libsignalfern_c.a' >&2; exit 1
+
 # What all is made from: another archive or another tool is taken, be it the older one.
-FROM := $(ARCHIVE) $(TOOL)
+FROM := $(ARCHIVE) $(LEVEL) $(TOOL)
 $(BUILD)/from: FORCE
 	@mkdir -p $(BUILD)
 	@echo '$(FROM)' | cmp -s - $@ || echo '$(FROM)' >$@
@@ -62,9 +87,14 @@ $(BUILD)/libsignalfern.a: $(ARCHIVE) $(BUILD)/names.o $(BUILD)/from
 	$(AR) rcs $@.new $(BUILD)/names.o
 	mv $@.new $@
 
+link_shared = $(CC) $(CFLAGS) $(LDFLAGS) -shared -Wl,-soname,$(SONAME) -Wl,--version-script=c/signalfern.map \
+    -Wl,-z,defs -Wl,--whole-archive $(filter %.a,$^) -Wl,--no-whole-archive $(filter %.o,$^) -o $@
+
 $(BUILD)/$(SHARED): $(BUILD)/libsignalfern.a c/signalfern.map
-	$(CC) $(CFLAGS) $(LDFLAGS) -shared -Wl,-soname,$(SONAME) -Wl,--version-script=c/signalfern.map \
-	    -Wl,-z,defs -Wl,--whole-archive $< -Wl,--no-whole-archive -o $@
+	$(link_shared)
+
+$(BUILD)/x86-64-v3/$(SHARED): $(BUILD)/x86-64-v3/libsignalfern_c.a $(BUILD)/names.o c/signalfern.map
+	$(link_shared)
 
 # Made anew each time, since the folders may be others.
 below_prefix = $(patsubst $(prefix)/%,$${prefix}/%,$(1))
@@ -73,7 +103,7 @@ $(BUILD)/signalfern.pc: signalfern.pc.in $(BUILD)/from FORCE
 	    -e 's|@libdir@|$(call below_prefix,$(libdir))|' -e 's|@version@|$(VERSION)|' \
 	    -e 's|@includedir@|$(call below_prefix,$(includedir))|' $< >$@
 
-ifdef TOOL
+ifneq ($(TOOL),)
 $(BUILD)/tool: $(TOOL) $(BUILD)/from
 	cp $< $@
 else
@@ -92,7 +122,13 @@ install-library: library
 	$(INSTALL) -m 755 $(BUILD)/$(SHARED) '$(DESTDIR)$(libdir)/$(SHARED)'
 	ln -sf $(SHARED) '$(DESTDIR)$(libdir)/$(SONAME)'
 	ln -sf $(SONAME) '$(DESTDIR)$(libdir)/libsignalfern.so'
+	$(foreach level,$(LEVEL),$(INSTALL) -d '$(DESTDIR)$(hwcapsdir)/$(level)' && \
+	    $(INSTALL) -m 755 $(BUILD)/$(level)/$(SHARED) '$(DESTDIR)$(hwcapsdir)/$(level)/$(SHARED)' && \
+	    ln -sf $(SHARED) '$(DESTDIR)$(hwcapsdir)/$(level)/$(SONAME)')
 	$(INSTALL) -m 644 $(BUILD)/signalfern.pc '$(DESTDIR)$(pkgconfigdir)/signalfern.pc'
+	packaging/man3 $(BUILD)/man3
+	$(INSTALL) -d '$(DESTDIR)$(mandir)/man3'
+	$(INSTALL) -m 644 $(BUILD)/man3/*.3 '$(DESTDIR)$(mandir)/man3'
 
 # What the tool writes of itself, $(2), where what it prints for `help $(1)` has the mark $(3) of such
 # a file; a tool that prints something else has none, and the file is left out.
@@ -117,8 +153,22 @@ install-tool: $(BUILD)/tool
 
 uninstall:
 	rm -f $(foreach file,$(includedir)/signalfern.h $(libdir)/libsignalfern.a $(libdir)/libsignalfern.so \
-	    $(libdir)/$(SONAME) $(libdir)/$(SHARED) $(pkgconfigdir)/signalfern.pc $(bindir)/signalfern \
+	    $(libdir)/$(SONAME) $(libdir)/$(SHARED) $(hwcapsdir)/x86-64-v3/$(SONAME) $(hwcapsdir)/x86-64-v3/$(SHARED) \
+	    $(pkgconfigdir)/signalfern.pc $(bindir)/signalfern \
 	    $(MAN) $(BASH) $(ZSH) $(FISH),'$(DESTDIR)$(file)')
+	rm -f '$(DESTDIR)$(mandir)'/man3/signalfern_*.3
+
+# C programs against what was built: every call once, by archive and by shared library; then all kinds of processor alike.
+check: library
+	$(CC) $(CFLAGS) -Iinclude rust/tests/library/installed.c $(BUILD)/libsignalfern.a -o $(BUILD)/by-archive
+	$(BUILD)/by-archive >/dev/null
+	$(CC) $(CFLAGS) -Iinclude rust/tests/library/installed.c $(BUILD)/$(SHARED) -Wl,-rpath,'$(abspath $(BUILD))' -o $(BUILD)/by-library
+	ln -sf $(SHARED) $(BUILD)/$(SONAME)
+	$(BUILD)/by-library >/dev/null
+	dist/check $(BUILD)/libsignalfern.a
+
+deb:
+	packaging/deb $(BUILD)/deb SIGNALFERN_LIB_DIR='$(SIGNALFERN_LIB_DIR)' PROVE='$(PROVE)' TOOL='$(TOOL)' BUILD='$(BUILD)'
 
 clean:
 	rm -rf $(BUILD)

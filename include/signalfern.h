@@ -13,19 +13,26 @@
  * sentences and the version, are tested and not proved (c/names.c). The installed libsignalfern.a and
  * libsignalfern.so have all of them.
  *
+ * The proved calls are those whose names end in _to: each writes its whole answer, on every input, to the
+ * struct that its last argument points to. Under the same name without _to stands a small inline function
+ * that hands the struct back. Numbers and pointers alone cross the boundary: every struct here is so many
+ * words of 64 bits with names. An opened column is lent by its pointer to a call that ends in _in_to, and
+ * copied by the inline function: for many questions the former is the sooner way.
+ *
  * For every proved call:
  *
  * - Every input is allowed, and every outcome is stated here. A call refuses with a number from
  *   the table below; it never stops the program.
- * - A refusal changes no lent byte. A success changes exactly what the call names.
+ * - A refusal changes no lent byte but the answer's. A success changes exactly what the call names, and
+ *   the answer.
  * - A length counts elements (ids, values or bytes), not bytes of memory. The pointer before it
  *   leads to that many elements, which the caller owns until the call returns. A pointer may be
- *   NULL only where its length is 0; it is then not followed.
- * - A pointer is aligned as its type asks: 4 bytes for uint32_t, 8 for int64_t and uint64_t, none for
- *   uint8_t. This holds where the length is 0 too (NULL is aligned).
+ *   NULL only where its length is 0; it is then not followed. A pointer to a struct is never NULL.
+ * - A pointer is aligned as its type asks: 4 bytes for uint32_t, 8 for int64_t, uint64_t and the structs,
+ *   none for uint8_t. This holds where the length is 0 too (NULL is aligned).
  * - What a call writes to (out; ids and values of a reading; ordinals, values and kinds of a page; the
- *   planner's table) overlaps nothing else that is lent to the same call, and no other thread uses it
- *   during the call.
+ *   planner's table; the answer) overlaps nothing else that is lent to the same call, and no other thread
+ *   uses it during the call.
  *   What a call only reads may be read by others at the same time. No lent array takes up more than
  *   2^63 - 1 bytes.
  * - Nothing is allocated, nothing is kept between calls, and no call waits.
@@ -44,9 +51,15 @@ extern "C" {
 
 /* The version of this header; signalfern_version() has that of the library. */
 #define SIGNALFERN_VERSION_MAJOR 0
-#define SIGNALFERN_VERSION_MINOR 1
+#define SIGNALFERN_VERSION_MINOR 2
 #define SIGNALFERN_VERSION_PATCH 0
-#define SIGNALFERN_VERSION "0.1.0"
+#define SIGNALFERN_VERSION "0.2.0"
+
+/*
+ * The boundary's version in a name: 100 times the major number and the minor one. Proved. c/names.c and the
+ * Rust package ask for it, so that neither links with an archive of other structs or other signatures.
+ */
+uint64_t signalfern_abi_0_2(void);
 
 /* Limits. */
 #define SIGNALFERN_MAX_ID 2147352575u    /* greatest id */
@@ -78,19 +91,21 @@ enum {
     SIGNALFERN_ORDER = 3,    /* an id is not above the one before; with the first such index */
     SIGNALFERN_RANGE = 4,    /* an id is above SIGNALFERN_MAX_ID; with the first such index */
     /* 5 is not used: it was OFFSET, which cannot happen (document 02, [7]) */
-    SIGNALFERN_ROOM = 6,     /* the output is shorter than the column; with the bytes needed */
-    SIGNALFERN_SHORT = 7,    /* the bytes end within a header number; with the byte count */
-    SIGNALFERN_NUMBER = 8,   /* a header number is not minimal, or is 2^64 or more; with the place,
-                                from 0, of the byte that decided it: the 0 that ends a number of
-                                several bytes, or the tenth byte of one that is not 1 */
+    SIGNALFERN_ROOM = 6,     /* the output is shorter than the column, or the set; with the bytes needed */
+    SIGNALFERN_SHORT = 7,    /* the bytes end before the last byte of a header number, or of a number of a
+                                set; with the byte count */
+    SIGNALFERN_NUMBER = 8,   /* a header number, or a number of a set, is not minimal, or is 2^64 or more;
+                                with the place, from 0, of the byte that decided it: the 0 that ends a
+                                number of several bytes, or the tenth byte of one that is not 1 */
     SIGNALFERN_EDITION = 9,  /* the first header number, or what the writer was told, is no edition; or it
                                 is not the one that signalfern_first_between is for */
-    SIGNALFERN_HEADER = 10,  /* a header rule is broken */
+    SIGNALFERN_HEADER = 10,  /* a header rule is broken; by the judge, the entry count or the power told is
+                                not allowed */
     SIGNALFERN_LENGTH = 11,  /* header, id section and value section are not the byte count */
     SIGNALFERN_BUFFER = 12,  /* the ids or the values buffer is shorter than n, a list for a page's answers
                                 shorter than its ids, or a table for the planner shorter than
                                 SIGNALFERN_MAX_TABLE; with the places needed */
-    SIGNALFERN_DAMAGED = 13, /* the bytes are no column of any pair list */
+    SIGNALFERN_DAMAGED = 13, /* the bytes are no column of any pair list, or no set of any id list */
     SIGNALFERN_ID = 14,      /* the looked-up id, or the target, is above SIGNALFERN_MAX_ID */
     SIGNALFERN_BROKEN = 15,  /* a step of the look-up fails: the bytes are damaged. In edition 3 a run's
                                 width above 64 and a stored number that reaches past the section are such
@@ -156,7 +171,7 @@ typedef struct {
  * is of no certain column.
  */
 typedef struct {
-    uint32_t last; /* the last target answered */
+    uint64_t last; /* the last target answered */
 } signalfern_cursor;
 
 /* What signalfern_next answers. Fields that a case does not name hold 0, but for the cursor. */
@@ -204,14 +219,16 @@ typedef struct {
     uint64_t ordinal; /* Found: how many ids of the set lie below the id. */
 } signalfern_member;
 
-/* Why an id section is faulty, in the order in which it is tested. */
+/* Why an id section is faulty, in the order in which it is tested. A block numbered 32767 is always taken for
+ * the end block, six bytes whatever its count says: only the first test and SIGNALFERN_END_BLOCK are its. */
 enum {
-    SIGNALFERN_CUT_OFF = 1,     /* a block, its head or its data, ends after the bytes */
-    SIGNALFERN_BLOCK_ORDER = 2, /* a block's number is not above the one before, or above 32765 */
+    SIGNALFERN_CUT_OFF = 1,     /* a block, its head or its data, ends after the bytes; the end block: fewer than
+                                   six are left */
+    SIGNALFERN_BLOCK_ORDER = 2, /* a block's number is not above the one before, or is 32766 or above 32767 */
     SIGNALFERN_PLACE_ORDER = 3, /* the places of a sparse block do not ascend */
     SIGNALFERN_ONES = 4,        /* the ones of a dense block are not as many as its ids */
     SIGNALFERN_RANK = 5,        /* a rank of a dense block is not the ones before its stride */
-    SIGNALFERN_END_BLOCK = 6,   /* the block numbered 32767 is not the end block */
+    SIGNALFERN_END_BLOCK = 6,   /* a block numbered 32767 is not FF 7F 00 00 FF FF (7F FF .. high byte first) */
     SIGNALFERN_JUMPS = 7,       /* their count is another, or one is wrong or cut off */
     SIGNALFERN_LEFT_OVER = 8    /* bytes follow the jump entries */
 };
@@ -239,10 +256,18 @@ typedef struct {
  * them stay as they were. Refused: the first that applies of 1, 9, 2, 3, 4 and 6, and out stays as it
  * was. To learn how many bytes are needed, call with out_len 0: the refusal is SIGNALFERN_ROOM.
  */
-signalfern_reply signalfern_write(const uint32_t *ids, size_t ids_len,
-                                  const int64_t *values, size_t values_len,
-                                  uint32_t edition, uint32_t power,
-                                  uint8_t *out, size_t out_len);
+void signalfern_write_to(const uint32_t *ids, size_t ids_len, const int64_t *values, size_t values_len,
+                         uint32_t edition, uint32_t power, uint8_t *out, size_t out_len,
+                         signalfern_reply *reply);
+
+static inline signalfern_reply signalfern_write(const uint32_t *ids, size_t ids_len, const int64_t *values,
+                                                size_t values_len, uint32_t edition, uint32_t power,
+                                                uint8_t *out, size_t out_len)
+{
+    signalfern_reply reply;
+    signalfern_write_to(ids, ids_len, values, values_len, edition, power, out, out_len, &reply);
+    return reply;
+}
 
 /*
  * Writes the column of the pairs by a plan: a table of their distinct values gives edition 4, and an empty
@@ -254,10 +279,19 @@ signalfern_reply signalfern_write(const uint32_t *ids, size_t ids_len,
  * Done: as signalfern_write. Refused: the first that applies of 1, 2, 3, 4, 17 and 6, and out stays as it
  * was.
  */
-signalfern_reply signalfern_write_planned(const uint32_t *ids, size_t ids_len,
-                                          const int64_t *values, size_t values_len,
-                                          const int64_t *table, size_t table_len,
-                                          uint32_t power, uint8_t *out, size_t out_len);
+void signalfern_write_planned_to(const uint32_t *ids, size_t ids_len, const int64_t *values, size_t values_len,
+                                 const int64_t *table, size_t table_len, uint32_t power, uint8_t *out,
+                                 size_t out_len, signalfern_reply *reply);
+
+static inline signalfern_reply signalfern_write_planned(const uint32_t *ids, size_t ids_len,
+                                                        const int64_t *values, size_t values_len,
+                                                        const int64_t *table, size_t table_len, uint32_t power,
+                                                        uint8_t *out, size_t out_len)
+{
+    signalfern_reply reply;
+    signalfern_write_planned_to(ids, ids_len, values, values_len, table, table_len, power, out, out_len, &reply);
+    return reply;
+}
 
 /*
  * Proposes a plan for these values: a table wherever signalfern_write_planned accepts one, else plain.
@@ -265,8 +299,16 @@ signalfern_reply signalfern_write_planned(const uint32_t *ids, size_t ids_len,
  * Done: number is how many entries the table has, 0 for plain; exactly so many first places of table were
  * written. Refused: 12 with SIGNALFERN_MAX_TABLE where table_len is less, and table stays as it was.
  */
-signalfern_reply signalfern_plan(const int64_t *values, size_t values_len,
-                                 int64_t *table, size_t table_len);
+void signalfern_plan_to(const int64_t *values, size_t values_len, int64_t *table, size_t table_len,
+                        signalfern_reply *reply);
+
+static inline signalfern_reply signalfern_plan(const int64_t *values, size_t values_len, int64_t *table,
+                                               size_t table_len)
+{
+    signalfern_reply reply;
+    signalfern_plan_to(values, values_len, table, table_len, &reply);
+    return reply;
+}
 
 /*
  * Tells whether the bytes are a column, to the last bit.
@@ -278,7 +320,14 @@ signalfern_reply signalfern_plan(const int64_t *values, size_t values_len,
  * table makes the column shorter. That it is the list that was meant no check can tell: the format has no
  * checksum, and a changed value can be another valid column's.
  */
-signalfern_reply signalfern_check(const uint8_t *bytes, size_t len);
+void signalfern_check_to(const uint8_t *bytes, size_t len, signalfern_reply *reply);
+
+static inline signalfern_reply signalfern_check(const uint8_t *bytes, size_t len)
+{
+    signalfern_reply reply;
+    signalfern_check_to(bytes, len, &reply);
+    return reply;
+}
 
 /*
  * Reads all pairs into ids and values. The bytes are checked in full first.
@@ -287,9 +336,16 @@ signalfern_reply signalfern_check(const uint8_t *bytes, size_t len);
  * in order. Refused: 7 to 11, then 12, then 13; both buffers stay as they were. SIGNALFERN_BUFFER
  * brings n, but for bytes that no check has accepted n is only what the header claims.
  */
-signalfern_reply signalfern_read(const uint8_t *bytes, size_t len,
-                                 uint32_t *ids, size_t ids_len,
-                                 int64_t *values, size_t values_len);
+void signalfern_read_to(const uint8_t *bytes, size_t len, uint32_t *ids, size_t ids_len, int64_t *values,
+                        size_t values_len, signalfern_reply *reply);
+
+static inline signalfern_reply signalfern_read(const uint8_t *bytes, size_t len, uint32_t *ids, size_t ids_len,
+                                               int64_t *values, size_t values_len)
+{
+    signalfern_reply reply;
+    signalfern_read_to(bytes, len, ids, ids_len, values, values_len, &reply);
+    return reply;
+}
 
 /*
  * Looks one id up, directly: the header, one jump entry, one block and one value are read.
@@ -298,12 +354,26 @@ signalfern_reply signalfern_read(const uint8_t *bytes, size_t len,
  * answer is that of the pair list. Other bytes are not checked in full: the answer is then the one
  * that the look-up's steps fix, and no byte outside the lent ones is read.
  */
-signalfern_answer signalfern_look_up(const uint8_t *bytes, size_t len, uint32_t id);
+void signalfern_look_up_to(const uint8_t *bytes, size_t len, uint32_t id, signalfern_answer *answer);
+
+static inline signalfern_answer signalfern_look_up(const uint8_t *bytes, size_t len, uint32_t id)
+{
+    signalfern_answer answer;
+    signalfern_look_up_to(bytes, len, id, &answer);
+    return answer;
+}
 
 /*
  * Reads the header, for the calls in an opened column: those that end in _in. Refused: 7 to 11.
  */
-signalfern_column signalfern_open(const uint8_t *bytes, size_t len);
+void signalfern_open_to(const uint8_t *bytes, size_t len, signalfern_column *column);
+
+static inline signalfern_column signalfern_open(const uint8_t *bytes, size_t len)
+{
+    signalfern_column column;
+    signalfern_open_to(bytes, len, &column);
+    return column;
+}
 
 /*
  * Looks one id up in a column opened before. With the column of signalfern_open(bytes, len), not
@@ -314,8 +384,16 @@ signalfern_column signalfern_open(const uint8_t *bytes, size_t len);
  * a refused opening do); 11 where start + id_bytes + value_bytes is not len; 15. Its fields refusal
  * and number do not matter.
  */
-signalfern_answer signalfern_look_up_in(signalfern_column column,
-                                        const uint8_t *bytes, size_t len, uint32_t id);
+void signalfern_look_up_in_to(const signalfern_column *column, const uint8_t *bytes, size_t len, uint32_t id,
+                              signalfern_answer *answer);
+
+static inline signalfern_answer signalfern_look_up_in(signalfern_column column, const uint8_t *bytes,
+                                                      size_t len, uint32_t id)
+{
+    signalfern_answer answer;
+    signalfern_look_up_in_to(&column, bytes, len, id, &answer);
+    return answer;
+}
 
 /*
  * Looks a page of ids up in one call, which opens the header once: the sooner way for many ids. The ids
@@ -330,33 +408,58 @@ signalfern_answer signalfern_look_up_in(signalfern_column column,
  *
  * Refused: 12 where a list is shorter than the ids, before any byte is read or written.
  */
-signalfern_page signalfern_look_up_page(const uint8_t *bytes, size_t len,
-                                        const uint32_t *ids, size_t ids_len,
-                                        uint64_t *ordinals, size_t ordinals_len,
-                                        int64_t *values, size_t values_len,
-                                        uint8_t *kinds, size_t kinds_len);
+void signalfern_look_up_page_to(const uint8_t *bytes, size_t len, const uint32_t *ids, size_t ids_len,
+                                uint64_t *ordinals, size_t ordinals_len, int64_t *values, size_t values_len,
+                                uint8_t *kinds, size_t kinds_len, signalfern_page *reply);
+
+static inline signalfern_page signalfern_look_up_page(const uint8_t *bytes, size_t len, const uint32_t *ids,
+                                                      size_t ids_len, uint64_t *ordinals, size_t ordinals_len,
+                                                      int64_t *values, size_t values_len, uint8_t *kinds,
+                                                      size_t kinds_len)
+{
+    signalfern_page reply;
+    signalfern_look_up_page_to(bytes, len, ids, ids_len, ordinals, ordinals_len, values, values_len, kinds,
+                               kinds_len, &reply);
+    return reply;
+}
 
 /*
  * Finds the first listed id at or above the target, for a walk: the cursor that an answer brings is
- * the one for the next call. Targets stand still or grow.
+ * the one for the next call. Targets stand still or grow. last is the cursor's number.
  *
- * Found, none or refused: 14; 16 where the target is below cursor.last; then 7 to 11; then 15. None is
+ * Found, none or refused: 14; 16 where the target is below last; then 7 to 11; then 15. None is
  * an answer too, and a refusal keeps the cursor. On bytes that signalfern_check accepts the answer is
  * that of the pair list. On other bytes it is what the look-up's steps say for the target and each id
  * above it in turn: the first that is not absent decides, and where all are absent there is none. In a
  * sparse block such a step goes through the entries in order, to the first at or above the place, and
  * does not halve them.
  */
-signalfern_candidate signalfern_next(signalfern_cursor cursor,
-                                     const uint8_t *bytes, size_t len, uint32_t target);
+void signalfern_next_to(uint64_t last, const uint8_t *bytes, size_t len, uint32_t target,
+                        signalfern_candidate *candidate);
+
+static inline signalfern_candidate signalfern_next(signalfern_cursor cursor, const uint8_t *bytes, size_t len,
+                                                   uint32_t target)
+{
+    signalfern_candidate candidate;
+    signalfern_next_to(cursor.last, bytes, len, target, &candidate);
+    return candidate;
+}
 
 /*
  * The same in a column opened before. With the column of signalfern_open(bytes, len), not refused, and
  * the same bytes, the answer is that of signalfern_next(cursor, bytes, len, target). Any other column
  * is allowed too, as for signalfern_look_up_in. Refused: 14, 16, 10, 11, 15.
  */
-signalfern_candidate signalfern_next_in(signalfern_column column, signalfern_cursor cursor,
-                                        const uint8_t *bytes, size_t len, uint32_t target);
+void signalfern_next_in_to(const signalfern_column *column, uint64_t last, const uint8_t *bytes, size_t len,
+                           uint32_t target, signalfern_candidate *candidate);
+
+static inline signalfern_candidate signalfern_next_in(signalfern_column column, signalfern_cursor cursor,
+                                                      const uint8_t *bytes, size_t len, uint32_t target)
+{
+    signalfern_candidate candidate;
+    signalfern_next_in_to(&column, cursor.last, bytes, len, target, &candidate);
+    return candidate;
+}
 
 /*
  * Finds the first ordinal with a value from low to high, both included, in a column of edition 3. It goes
@@ -369,7 +472,16 @@ signalfern_candidate signalfern_next_in(signalfern_column column, signalfern_cur
  * scan of the values. On other bytes the directory is believed: what it says of a run decides whether the
  * run is read.
  */
-signalfern_between signalfern_first_between(const uint8_t *bytes, size_t len, int64_t low, int64_t high);
+void signalfern_first_between_to(const uint8_t *bytes, size_t len, int64_t low, int64_t high,
+                                 signalfern_between *between);
+
+static inline signalfern_between signalfern_first_between(const uint8_t *bytes, size_t len, int64_t low,
+                                                          int64_t high)
+{
+    signalfern_between between;
+    signalfern_first_between_to(bytes, len, low, high, &between);
+    return between;
+}
 
 /*
  * The same in a column opened before. With the column of signalfern_open(bytes, len), not refused, and the
@@ -377,8 +489,16 @@ signalfern_between signalfern_first_between(const uint8_t *bytes, size_t len, in
  * allowed too. Refused: 9 where its edition is not SIGNALFERN_RUNS, which comes first here too; then 10 and
  * 11 as by signalfern_look_up_in; then 15.
  */
-signalfern_between signalfern_first_between_in(signalfern_column column,
-                                               const uint8_t *bytes, size_t len, int64_t low, int64_t high);
+void signalfern_first_between_in_to(const signalfern_column *column, const uint8_t *bytes, size_t len,
+                                    int64_t low, int64_t high, signalfern_between *between);
+
+static inline signalfern_between signalfern_first_between_in(signalfern_column column, const uint8_t *bytes,
+                                                             size_t len, int64_t low, int64_t high)
+{
+    signalfern_between between;
+    signalfern_first_between_in_to(&column, bytes, len, low, high, &between);
+    return between;
+}
 
 /*
  * Looks one id up in a machine column with a correction on top.
@@ -388,28 +508,55 @@ signalfern_between signalfern_first_between_in(signalfern_column column,
  * there, the machine column's answer or refusal is the call's. An id above the limit is refused as the
  * correction's. Both may be the same bytes.
  */
-signalfern_layered signalfern_look_up_layered(const uint8_t *machine, size_t machine_len,
-                                              const uint8_t *correction, size_t correction_len,
-                                              uint32_t id);
+void signalfern_look_up_layered_to(const uint8_t *machine, size_t machine_len, const uint8_t *correction,
+                                   size_t correction_len, uint32_t id, signalfern_layered *answer);
+
+static inline signalfern_layered signalfern_look_up_layered(const uint8_t *machine, size_t machine_len,
+                                                            const uint8_t *correction, size_t correction_len,
+                                                            uint32_t id)
+{
+    signalfern_layered answer;
+    signalfern_look_up_layered_to(machine, machine_len, correction, correction_len, id, &answer);
+    return answer;
+}
 
 /*
  * The same in two columns opened before, each with its own bytes. Any other columns are allowed too, as
  * for signalfern_look_up_in, by which each is looked in.
  */
-signalfern_layered signalfern_look_up_layered_in(signalfern_column machine_column,
-                                                 const uint8_t *machine, size_t machine_len,
-                                                 signalfern_column correction_column,
-                                                 const uint8_t *correction, size_t correction_len,
-                                                 uint32_t id);
+void signalfern_look_up_layered_in_to(const signalfern_column *machine_column, const uint8_t *machine,
+                                      size_t machine_len, const signalfern_column *correction_column,
+                                      const uint8_t *correction, size_t correction_len, uint32_t id,
+                                      signalfern_layered *answer);
+
+static inline signalfern_layered signalfern_look_up_layered_in(signalfern_column machine_column,
+                                                               const uint8_t *machine, size_t machine_len,
+                                                               signalfern_column correction_column,
+                                                               const uint8_t *correction, size_t correction_len,
+                                                               uint32_t id)
+{
+    signalfern_layered answer;
+    signalfern_look_up_layered_in_to(&machine_column, machine, machine_len, &correction_column, correction,
+                                     correction_len, id, &answer);
+    return answer;
+}
 
 /*
  * Tells where the bytes are that hold the id's value: the value section of the column that
  * signalfern_look_up_layered names, for the same inputs. Where that finds nothing or refuses, it is an
  * empty part of the machine column: 0, 0, 0.
  */
-signalfern_part signalfern_layered_values(const uint8_t *machine, size_t machine_len,
-                                          const uint8_t *correction, size_t correction_len,
-                                          uint32_t id);
+void signalfern_layered_values_to(const uint8_t *machine, size_t machine_len, const uint8_t *correction,
+                                  size_t correction_len, uint32_t id, signalfern_part *part);
+
+static inline signalfern_part signalfern_layered_values(const uint8_t *machine, size_t machine_len,
+                                                        const uint8_t *correction, size_t correction_len,
+                                                        uint32_t id)
+{
+    signalfern_part part;
+    signalfern_layered_values_to(machine, machine_len, correction, correction_len, id, &part);
+    return part;
+}
 
 /*
  * Sets on disk: ids without values, and without a header. A set is the number of its blocks of 65536
@@ -423,8 +570,16 @@ signalfern_part signalfern_layered_values(const uint8_t *machine, size_t machine
  * Done: number is the set's byte count; exactly these bytes of out were written. Refused: 3, 4 or 6, the
  * lowest that applies, and out stays as it was. To learn how many bytes are needed, call with out_len 0.
  */
-signalfern_reply signalfern_set_write(const uint32_t *ids, size_t ids_len,
-                                      uint8_t *out, size_t out_len);
+void signalfern_set_write_to(const uint32_t *ids, size_t ids_len, uint8_t *out, size_t out_len,
+                             signalfern_reply *reply);
+
+static inline signalfern_reply signalfern_set_write(const uint32_t *ids, size_t ids_len, uint8_t *out,
+                                                    size_t out_len)
+{
+    signalfern_reply reply;
+    signalfern_set_write_to(ids, ids_len, out, out_len, &reply);
+    return reply;
+}
 
 /*
  * Tells whether the bytes are a set, to the last bit.
@@ -433,14 +588,28 @@ signalfern_reply signalfern_set_write(const uint32_t *ids, size_t ids_len,
  * fault in the order of the bytes decides, 7 or 8 for one of the set's numbers, with the numbers that a
  * header has with them, and 13 for all else. The time grows with the bytes, not with the ids.
  */
-signalfern_reply signalfern_set_check(const uint8_t *bytes, size_t len);
+void signalfern_set_check_to(const uint8_t *bytes, size_t len, signalfern_reply *reply);
+
+static inline signalfern_reply signalfern_set_check(const uint8_t *bytes, size_t len)
+{
+    signalfern_reply reply;
+    signalfern_set_check_to(bytes, len, &reply);
+    return reply;
+}
 
 /*
  * Tells whether the id is in the set, and its ordinal. Refused: 14, then as signalfern_set_check: the
  * bytes are checked in full on the way, and each question takes that long. It answers as
  * signalfern_look_up does in a column of the same ids.
  */
-signalfern_member signalfern_set_find(const uint8_t *bytes, size_t len, uint32_t id);
+void signalfern_set_find_to(const uint8_t *bytes, size_t len, uint32_t id, signalfern_member *member);
+
+static inline signalfern_member signalfern_set_find(const uint8_t *bytes, size_t len, uint32_t id)
+{
+    signalfern_member member;
+    signalfern_set_find_to(bytes, len, id, &member);
+    return member;
+}
 
 /*
  * Judges a bare id section, without a header of ours, as another maker sends it: its bytes, how many
@@ -452,8 +621,17 @@ signalfern_member signalfern_set_find(const uint8_t *bytes, size_t len, uint32_t
  * Accepted: some list of ids, and just one, has this section with so many jump entries at this power.
  * Faulty: the first fault, by the tests of the enum above, block by block.
  */
-signalfern_judgement signalfern_judge_section(const uint8_t *bytes, size_t len, uint64_t jump_count,
-                                              uint64_t power, uint32_t high_first);
+void signalfern_judge_section_to(const uint8_t *bytes, size_t len, uint64_t jump_count, uint64_t power,
+                                 uint32_t high_first, signalfern_judgement *judgement);
+
+static inline signalfern_judgement signalfern_judge_section(const uint8_t *bytes, size_t len,
+                                                            uint64_t jump_count, uint64_t power,
+                                                            uint32_t high_first)
+{
+    signalfern_judgement judgement;
+    signalfern_judge_section_to(bytes, len, jump_count, power, high_first, &judgement);
+    return judgement;
+}
 
 /*
  * From here on plain C, not proved (c/names.c). No text is to be freed, and none is NULL.

@@ -60,7 +60,12 @@ impl Column<'_> {
     /// [`Refusal::Edition`] for any other edition, then [`Refusal::Broken`], which cannot come from bytes
     /// that [`check`](crate::check) accepts.
     pub fn first_between(&self, low: i64, high: i64) -> Result<Option<u64>, Refusal> {
-        ordinal(ffi::first_between_in(self.numbers, self.bytes(), low, high))
+        ordinal(ffi::first_between_in(
+            &self.numbers,
+            self.bytes(),
+            low,
+            high,
+        ))
     }
 }
 
@@ -79,6 +84,6 @@ impl Header {
         low: i64,
         high: i64,
     ) -> Result<Option<u64>, Refusal> {
-        ordinal(ffi::first_between_in(self.numbers(), bytes, low, high))
+        ordinal(ffi::first_between_in(&self.numbers(), bytes, low, high))
     }
 }

@@ -74,7 +74,7 @@ impl<'a> Column<'a> {
     /// [`check`](crate::check) accepts.
     #[inline]
     pub fn look_up(&self, id: u32) -> Result<Answer, Refusal> {
-        answer(ffi::look_up_in(self.numbers, self.bytes, id))
+        answer(ffi::look_up_in(&self.numbers, self.bytes, id))
     }
 
     /// The bytes that the column was opened from.
@@ -242,7 +242,7 @@ impl Header {
     /// count; [`Refusal::Broken`].
     #[inline]
     pub fn look_up_in(&self, bytes: &[u8], id: u32) -> Result<Answer, Refusal> {
-        answer(ffi::look_up_in(self.numbers(), bytes, id))
+        answer(ffi::look_up_in(&self.numbers(), bytes, id))
     }
 
     const fn of(numbers: &ffi::Column) -> Self {

@@ -3,7 +3,10 @@
 //! Nothing checks these declarations against the archive but the tests; they stand beside the
 //! header's in the same order. Each function below lends whole slices, so the borrow checker keeps
 //! the header's pointer rules: alive, aligned, as long as said, and what is written to is lent once.
+//! A call writes its whole answer, on every input, to the place that is lent last.
 #![allow(unsafe_code)]
+
+use std::mem::MaybeUninit;
 
 #[repr(C)]
 #[derive(Clone, Copy)]
@@ -51,7 +54,7 @@ pub(crate) struct Column {
 #[repr(C)]
 #[derive(Clone, Copy)]
 pub(crate) struct Cursor {
-    pub last: u32,
+    pub last: u64,
 }
 
 #[repr(C)]
@@ -111,7 +114,7 @@ pub(crate) struct Judgement {
 }
 
 extern "C" {
-    fn signalfern_write(
+    fn signalfern_write_to(
         ids: *const u32,
         ids_len: usize,
         values: *const i64,
@@ -120,8 +123,9 @@ extern "C" {
         power: u32,
         out: *mut u8,
         out_len: usize,
-    ) -> Reply;
-    fn signalfern_write_planned(
+        reply: *mut Reply,
+    );
+    fn signalfern_write_planned_to(
         ids: *const u32,
         ids_len: usize,
         values: *const i64,
@@ -131,26 +135,35 @@ extern "C" {
         power: u32,
         out: *mut u8,
         out_len: usize,
-    ) -> Reply;
-    fn signalfern_plan(
+        reply: *mut Reply,
+    );
+    fn signalfern_plan_to(
         values: *const i64,
         values_len: usize,
         table: *mut i64,
         table_len: usize,
-    ) -> Reply;
-    fn signalfern_check(bytes: *const u8, len: usize) -> Reply;
-    fn signalfern_read(
+        reply: *mut Reply,
+    );
+    fn signalfern_check_to(bytes: *const u8, len: usize, reply: *mut Reply);
+    fn signalfern_read_to(
         bytes: *const u8,
         len: usize,
         ids: *mut u32,
         ids_len: usize,
         values: *mut i64,
         values_len: usize,
-    ) -> Reply;
-    fn signalfern_look_up(bytes: *const u8, len: usize, id: u32) -> Answer;
-    fn signalfern_open(bytes: *const u8, len: usize) -> Column;
-    fn signalfern_look_up_in(column: Column, bytes: *const u8, len: usize, id: u32) -> Answer;
-    fn signalfern_look_up_page(
+        reply: *mut Reply,
+    );
+    fn signalfern_look_up_to(bytes: *const u8, len: usize, id: u32, answer: *mut Answer);
+    fn signalfern_open_to(bytes: *const u8, len: usize, column: *mut Column);
+    fn signalfern_look_up_in_to(
+        column: *const Column,
+        bytes: *const u8,
+        len: usize,
+        id: u32,
+        answer: *mut Answer,
+    );
+    fn signalfern_look_up_page_to(
         bytes: *const u8,
         len: usize,
         ids: *const u32,
@@ -161,57 +174,93 @@ extern "C" {
         values_len: usize,
         kinds: *mut u8,
         kinds_len: usize,
-    ) -> Page;
-    fn signalfern_next(cursor: Cursor, bytes: *const u8, len: usize, target: u32) -> Candidate;
-    fn signalfern_next_in(
-        column: Column,
-        cursor: Cursor,
+        reply: *mut Page,
+    );
+    fn signalfern_next_to(
+        last: u64,
         bytes: *const u8,
         len: usize,
         target: u32,
-    ) -> Candidate;
-    fn signalfern_first_between(bytes: *const u8, len: usize, low: i64, high: i64) -> Between;
-    fn signalfern_first_between_in(
-        column: Column,
+        candidate: *mut Candidate,
+    );
+    fn signalfern_next_in_to(
+        column: *const Column,
+        last: u64,
+        bytes: *const u8,
+        len: usize,
+        target: u32,
+        candidate: *mut Candidate,
+    );
+    fn signalfern_first_between_to(
         bytes: *const u8,
         len: usize,
         low: i64,
         high: i64,
-    ) -> Between;
-    fn signalfern_look_up_layered(
+        between: *mut Between,
+    );
+    fn signalfern_first_between_in_to(
+        column: *const Column,
+        bytes: *const u8,
+        len: usize,
+        low: i64,
+        high: i64,
+        between: *mut Between,
+    );
+    fn signalfern_look_up_layered_to(
         machine: *const u8,
         machine_len: usize,
         correction: *const u8,
         correction_len: usize,
         id: u32,
-    ) -> Layered;
-    fn signalfern_look_up_layered_in(
-        machine_column: Column,
+        answer: *mut Layered,
+    );
+    fn signalfern_look_up_layered_in_to(
+        machine_column: *const Column,
         machine: *const u8,
         machine_len: usize,
-        correction_column: Column,
+        correction_column: *const Column,
         correction: *const u8,
         correction_len: usize,
         id: u32,
-    ) -> Layered;
-    fn signalfern_layered_values(
+        answer: *mut Layered,
+    );
+    fn signalfern_layered_values_to(
         machine: *const u8,
         machine_len: usize,
         correction: *const u8,
         correction_len: usize,
         id: u32,
-    ) -> Part;
-    fn signalfern_set_write(ids: *const u32, ids_len: usize, out: *mut u8, out_len: usize)
-        -> Reply;
-    fn signalfern_set_check(bytes: *const u8, len: usize) -> Reply;
-    fn signalfern_set_find(bytes: *const u8, len: usize, id: u32) -> Member;
-    fn signalfern_judge_section(
+        part: *mut Part,
+    );
+    fn signalfern_set_write_to(
+        ids: *const u32,
+        ids_len: usize,
+        out: *mut u8,
+        out_len: usize,
+        reply: *mut Reply,
+    );
+    fn signalfern_set_check_to(bytes: *const u8, len: usize, reply: *mut Reply);
+    fn signalfern_set_find_to(bytes: *const u8, len: usize, id: u32, member: *mut Member);
+    fn signalfern_judge_section_to(
         bytes: *const u8,
         len: usize,
         jump_count: u64,
         power: u64,
         high_first: u32,
-    ) -> Judgement;
+        judgement: *mut Judgement,
+    );
+}
+
+/// Lends a call the place for its answer.
+///
+/// # Safety
+///
+/// The call writes the whole answer.
+unsafe fn told<T>(call: impl FnOnce(*mut T)) -> T {
+    let mut answer = MaybeUninit::uninit();
+    call(answer.as_mut_ptr());
+    // SAFETY: the caller's word.
+    unsafe { answer.assume_init() }
 }
 
 pub(crate) fn write(
@@ -223,16 +272,19 @@ pub(crate) fn write(
 ) -> Reply {
     // SAFETY: three slices with their own lengths; `out` is borrowed for this call alone.
     unsafe {
-        signalfern_write(
-            ids.as_ptr(),
-            ids.len(),
-            values.as_ptr(),
-            values.len(),
-            edition,
-            power,
-            out.as_mut_ptr(),
-            out.len(),
-        )
+        told(|answer| {
+            signalfern_write_to(
+                ids.as_ptr(),
+                ids.len(),
+                values.as_ptr(),
+                values.len(),
+                edition,
+                power,
+                out.as_mut_ptr(),
+                out.len(),
+                answer,
+            );
+        })
     }
 }
 
@@ -245,59 +297,69 @@ pub(crate) fn write_planned(
 ) -> Reply {
     // SAFETY: four slices with their own lengths; `out` is borrowed for this call alone.
     unsafe {
-        signalfern_write_planned(
-            ids.as_ptr(),
-            ids.len(),
-            values.as_ptr(),
-            values.len(),
-            table.as_ptr(),
-            table.len(),
-            power,
-            out.as_mut_ptr(),
-            out.len(),
-        )
+        told(|answer| {
+            signalfern_write_planned_to(
+                ids.as_ptr(),
+                ids.len(),
+                values.as_ptr(),
+                values.len(),
+                table.as_ptr(),
+                table.len(),
+                power,
+                out.as_mut_ptr(),
+                out.len(),
+                answer,
+            );
+        })
     }
 }
 
 pub(crate) fn plan(values: &[i64], table: &mut [i64]) -> Reply {
     let (v, t) = (values, table);
     // SAFETY: two slices with their own lengths; `table` is borrowed for this call alone.
-    unsafe { signalfern_plan(v.as_ptr(), v.len(), t.as_mut_ptr(), t.len()) }
+    unsafe {
+        told(|answer| signalfern_plan_to(v.as_ptr(), v.len(), t.as_mut_ptr(), t.len(), answer))
+    }
 }
 
 pub(crate) fn check(bytes: &[u8]) -> Reply {
     // SAFETY: a slice with its own length, only read.
-    unsafe { signalfern_check(bytes.as_ptr(), bytes.len()) }
+    unsafe { told(|answer| signalfern_check_to(bytes.as_ptr(), bytes.len(), answer)) }
 }
 
 pub(crate) fn read(bytes: &[u8], ids: &mut [u32], values: &mut [i64]) -> Reply {
     // SAFETY: three slices with their own lengths; `ids` and `values` are borrowed for this call
     // alone.
     unsafe {
-        signalfern_read(
-            bytes.as_ptr(),
-            bytes.len(),
-            ids.as_mut_ptr(),
-            ids.len(),
-            values.as_mut_ptr(),
-            values.len(),
-        )
+        told(|answer| {
+            signalfern_read_to(
+                bytes.as_ptr(),
+                bytes.len(),
+                ids.as_mut_ptr(),
+                ids.len(),
+                values.as_mut_ptr(),
+                values.len(),
+                answer,
+            );
+        })
     }
 }
 
 pub(crate) fn look_up(bytes: &[u8], id: u32) -> Answer {
     // SAFETY: a slice with its own length, only read.
-    unsafe { signalfern_look_up(bytes.as_ptr(), bytes.len(), id) }
+    unsafe { told(|answer| signalfern_look_up_to(bytes.as_ptr(), bytes.len(), id, answer)) }
 }
 
 pub(crate) fn open(bytes: &[u8]) -> Column {
     // SAFETY: a slice with its own length, only read.
-    unsafe { signalfern_open(bytes.as_ptr(), bytes.len()) }
+    unsafe { told(|answer| signalfern_open_to(bytes.as_ptr(), bytes.len(), answer)) }
 }
 
-pub(crate) fn look_up_in(column: Column, bytes: &[u8], id: u32) -> Answer {
+pub(crate) fn look_up_in(column: &Column, bytes: &[u8], id: u32) -> Answer {
     // SAFETY: a slice with its own length, only read; the call takes any column.
-    unsafe { signalfern_look_up_in(column, bytes.as_ptr(), bytes.len(), id) }
+    unsafe {
+        told(|answer| signalfern_look_up_in_to(column, bytes.as_ptr(), bytes.len(), id, answer))
+    }
 }
 
 pub(crate) fn look_up_page(
@@ -310,75 +372,122 @@ pub(crate) fn look_up_page(
     // SAFETY: five slices with their own lengths; `ordinals`, `values` and `kinds` are borrowed for
     // this call alone.
     unsafe {
-        signalfern_look_up_page(
-            bytes.as_ptr(),
-            bytes.len(),
-            ids.as_ptr(),
-            ids.len(),
-            ordinals.as_mut_ptr(),
-            ordinals.len(),
-            values.as_mut_ptr(),
-            values.len(),
-            kinds.as_mut_ptr(),
-            kinds.len(),
-        )
+        told(|answer| {
+            signalfern_look_up_page_to(
+                bytes.as_ptr(),
+                bytes.len(),
+                ids.as_ptr(),
+                ids.len(),
+                ordinals.as_mut_ptr(),
+                ordinals.len(),
+                values.as_mut_ptr(),
+                values.len(),
+                kinds.as_mut_ptr(),
+                kinds.len(),
+                answer,
+            );
+        })
     }
 }
 
 pub(crate) fn next(cursor: Cursor, bytes: &[u8], target: u32) -> Candidate {
     // SAFETY: a slice with its own length, only read; the call takes any cursor.
-    unsafe { signalfern_next(cursor, bytes.as_ptr(), bytes.len(), target) }
+    unsafe {
+        told(|answer| signalfern_next_to(cursor.last, bytes.as_ptr(), bytes.len(), target, answer))
+    }
 }
 
-pub(crate) fn next_in(column: Column, cursor: Cursor, bytes: &[u8], target: u32) -> Candidate {
+pub(crate) fn next_in(column: &Column, cursor: Cursor, bytes: &[u8], target: u32) -> Candidate {
     // SAFETY: a slice with its own length, only read; the call takes any column and any cursor.
-    unsafe { signalfern_next_in(column, cursor, bytes.as_ptr(), bytes.len(), target) }
+    unsafe {
+        told(|answer| {
+            signalfern_next_in_to(
+                column,
+                cursor.last,
+                bytes.as_ptr(),
+                bytes.len(),
+                target,
+                answer,
+            )
+        })
+    }
 }
 
 pub(crate) fn first_between(bytes: &[u8], low: i64, high: i64) -> Between {
     // SAFETY: a slice with its own length, only read.
-    unsafe { signalfern_first_between(bytes.as_ptr(), bytes.len(), low, high) }
+    unsafe {
+        told(|answer| signalfern_first_between_to(bytes.as_ptr(), bytes.len(), low, high, answer))
+    }
 }
 
-pub(crate) fn first_between_in(column: Column, bytes: &[u8], low: i64, high: i64) -> Between {
+pub(crate) fn first_between_in(column: &Column, bytes: &[u8], low: i64, high: i64) -> Between {
     // SAFETY: a slice with its own length, only read; the call takes any column.
-    unsafe { signalfern_first_between_in(column, bytes.as_ptr(), bytes.len(), low, high) }
+    unsafe {
+        told(|answer| {
+            signalfern_first_between_in_to(column, bytes.as_ptr(), bytes.len(), low, high, answer)
+        })
+    }
 }
 
 pub(crate) fn look_up_layered(machine: &[u8], correction: &[u8], id: u32) -> Layered {
     let (m, c) = (machine, correction);
     // SAFETY: two slices with their own lengths, only read.
-    unsafe { signalfern_look_up_layered(m.as_ptr(), m.len(), c.as_ptr(), c.len(), id) }
+    unsafe {
+        told(|answer| {
+            signalfern_look_up_layered_to(m.as_ptr(), m.len(), c.as_ptr(), c.len(), id, answer)
+        })
+    }
 }
 
 pub(crate) fn look_up_layered_in(
-    (x, m): (Column, &[u8]),
-    (y, c): (Column, &[u8]),
+    (x, m): (&Column, &[u8]),
+    (y, c): (&Column, &[u8]),
     id: u32,
 ) -> Layered {
     // SAFETY: two slices with their own lengths, only read; the call takes any columns.
-    unsafe { signalfern_look_up_layered_in(x, m.as_ptr(), m.len(), y, c.as_ptr(), c.len(), id) }
+    unsafe {
+        told(|answer| {
+            signalfern_look_up_layered_in_to(
+                x,
+                m.as_ptr(),
+                m.len(),
+                y,
+                c.as_ptr(),
+                c.len(),
+                id,
+                answer,
+            )
+        })
+    }
 }
 
 pub(crate) fn layered_values(machine: &[u8], correction: &[u8], id: u32) -> Part {
     let (m, c) = (machine, correction);
     // SAFETY: two slices with their own lengths, only read.
-    unsafe { signalfern_layered_values(m.as_ptr(), m.len(), c.as_ptr(), c.len(), id) }
+    unsafe {
+        told(|answer| {
+            signalfern_layered_values_to(m.as_ptr(), m.len(), c.as_ptr(), c.len(), id, answer)
+        })
+    }
 }
 
 pub(crate) fn set_write(ids: &[u32], out: &mut [u8]) -> Reply {
     // SAFETY: two slices with their own lengths; `out` is borrowed for this call alone.
-    unsafe { signalfern_set_write(ids.as_ptr(), ids.len(), out.as_mut_ptr(), out.len()) }
+    unsafe {
+        told(|answer| {
+            signalfern_set_write_to(ids.as_ptr(), ids.len(), out.as_mut_ptr(), out.len(), answer)
+        })
+    }
 }
 
 pub(crate) fn set_check(bytes: &[u8]) -> Reply {
     // SAFETY: a slice with its own length, only read.
-    unsafe { signalfern_set_check(bytes.as_ptr(), bytes.len()) }
+    unsafe { told(|answer| signalfern_set_check_to(bytes.as_ptr(), bytes.len(), answer)) }
 }
 
 pub(crate) fn set_find(bytes: &[u8], id: u32) -> Member {
     // SAFETY: a slice with its own length, only read.
-    unsafe { signalfern_set_find(bytes.as_ptr(), bytes.len(), id) }
+    unsafe { told(|answer| signalfern_set_find_to(bytes.as_ptr(), bytes.len(), id, answer)) }
 }
 
 pub(crate) fn judge_section(
@@ -389,5 +498,16 @@ pub(crate) fn judge_section(
 ) -> Judgement {
     let (start, len) = (bytes.as_ptr(), bytes.len());
     // SAFETY: a slice with its own length, only read.
-    unsafe { signalfern_judge_section(start, len, jump_count, power, u32::from(high_first)) }
+    unsafe {
+        told(|answer| {
+            signalfern_judge_section_to(
+                start,
+                len,
+                jump_count,
+                power,
+                u32::from(high_first),
+                answer,
+            )
+        })
+    }
 }

@@ -248,8 +248,8 @@ impl<'a> Layered<'a> {
     pub fn look_up(&self, id: u32) -> Result<LayeredAnswer, LayeredRefusal> {
         let (machine, correction) = (&self.machine, &self.correction);
         answer(ffi::look_up_layered_in(
-            (machine.numbers, machine.bytes()),
-            (correction.numbers, correction.bytes()),
+            (&machine.numbers, machine.bytes()),
+            (&correction.numbers, correction.bytes()),
             id,
         ))
     }

@@ -83,6 +83,9 @@ pub use refusal::Refusal;
 pub use section::{ByteOrder, Fault, Reason, Section};
 pub use set::{set_check, set_find, set_write, set_write_to_vec, Set};
 
+/// The version of this package, which is that of the library in it.
+pub const VERSION: &str = env!("CARGO_PKG_VERSION");
+
 /// The greatest id.
 pub const MAX_ID: u32 = 2_147_352_575;
 

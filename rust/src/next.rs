@@ -50,14 +50,17 @@ impl Cursor {
         self.last
     }
 
-    const fn lent(self) -> ffi::Cursor {
-        ffi::Cursor { last: self.last }
+    fn lent(self) -> ffi::Cursor {
+        ffi::Cursor {
+            last: self.last.into(),
+        }
     }
 
     /// Takes the cursor out of what a call gave; a refusal gives the one that it was lent.
     #[inline]
     fn take(&mut self, given: ffi::Candidate) -> Result<Option<Candidate>, Refusal> {
-        self.last = given.cursor.last;
+        // The target, or what was lent.
+        self.last = given.cursor.last as u32;
         match given.kind {
             0 => Ok(Some(Candidate {
                 // An id, so it has 31 bits.
@@ -122,7 +125,7 @@ impl<'a> Column<'a> {
     /// that [`check`](crate::check) accepts. The cursor then stays as it was.
     #[inline]
     pub fn next(&self, cursor: &mut Cursor, target: u32) -> Result<Option<Candidate>, Refusal> {
-        let given = ffi::next_in(self.numbers, cursor.lent(), self.bytes(), target);
+        let given = ffi::next_in(&self.numbers, cursor.lent(), self.bytes(), target);
         cursor.take(given)
     }
 
@@ -166,7 +169,7 @@ impl Header {
         bytes: &[u8],
         target: u32,
     ) -> Result<Option<Candidate>, Refusal> {
-        cursor.take(ffi::next_in(self.numbers(), cursor.lent(), bytes, target))
+        cursor.take(ffi::next_in(&self.numbers(), cursor.lent(), bytes, target))
     }
 }
 

@@ -23,17 +23,17 @@ pub enum Refusal {
         /// The first such index.
         index: usize,
     },
-    /// The output is shorter than the column.
+    /// The output is shorter than the column, or than the set.
     Room {
-        /// The column's bytes.
+        /// The bytes of the column or of the set.
         needed: usize,
     },
-    /// The bytes end within a header number.
+    /// The bytes end before the last byte of a header number, or of a number of a set.
     Short {
         /// The byte count.
         bytes: usize,
     },
-    /// A header number is not minimal, or is 2^64 or more.
+    /// A header number, or a number of a set, is not minimal, or is 2^64 or more.
     Number {
         /// The place, from 0, of the byte that decided it: the 0 that ends a number of several bytes,
         /// or the tenth byte of one that is not 1.
@@ -53,7 +53,7 @@ pub enum Refusal {
         /// The count of pairs that the header claims, that of the ids, or `MAX_TABLE`.
         needed: usize,
     },
-    /// The bytes are no column of any pair list.
+    /// The bytes are no column of any pair list, or no set of any id list.
     Damaged,
     /// The looked-up id, or the target, is above [`MAX_ID`](crate::MAX_ID).
     Id,
@@ -189,16 +189,17 @@ impl fmt::Display for Refusal {
             ),
             Self::Room { needed } => write!(
                 f,
-                "the output is too short: the column takes {needed} bytes"
+                "the output is too short: {needed} bytes are needed"
             ),
             Self::Short { bytes } => write!(
                 f,
-                "the bytes, {bytes} in all, end within the header: the column is empty or cut off"
+                "the bytes, {bytes} in all, end within a number of the header, or of a set: they are \
+                 empty or cut off"
             ),
             Self::Number { place } => write!(
                 f,
-                "a number of the header is not in its shortest form or needs more than 64 bits, by \
-                 byte {place} (from 0): the header is damaged, or this is no column"
+                "a number of the header, or of a set, is not in its shortest form or needs more than \
+                 64 bits, by byte {place} (from 0): the bytes are damaged, or neither column nor set"
             ),
             Self::Edition => write!(
                 f,
@@ -207,7 +208,8 @@ impl fmt::Display for Refusal {
             ),
             Self::Header => write!(
                 f,
-                "the numbers of the header break a rule (a limit, or sizes that do not agree)"
+                "the numbers of the header, or those told of an id section, break a rule (a limit, or \
+                 sizes that do not agree)"
             ),
             Self::Length => write!(
                 f,
@@ -220,7 +222,7 @@ impl fmt::Display for Refusal {
             ),
             Self::Damaged => write!(
                 f,
-                "the header is sound, but what follows is not the column of any list of pairs"
+                "the bytes are not the column of any list of pairs, or not the set of any list of ids"
             ),
             Self::Id => write!(
                 f,

@@ -84,9 +84,9 @@ pub enum Fault {
 /// Why a section is faulty, in the order in which it is tested.
 #[derive(Clone, Copy, Debug, PartialEq, Eq, PartialOrd, Ord, Hash)]
 pub enum Reason {
-    /// The bytes end within a block.
+    /// The bytes end within a block. One numbered 32767 is the end block: six bytes, whatever its count says.
     CutOff,
-    /// A block's number is not above the one before it, or is above 32765.
+    /// A block's number is not above the one before it, or is 32766 or above 32767.
     BlockOrder,
     /// The places of a sparse block do not ascend.
     PlaceOrder,
@@ -94,7 +94,7 @@ pub enum Reason {
     Ones,
     /// A rank of a dense block is not the count of ones before its stride.
     Rank,
-    /// The block numbered 32767 is not the end block.
+    /// A block numbered 32767, which is always taken for the end block, is not it.
     EndBlock,
     /// There are more or fewer jump entries, or one is wrong or cut off.
     Jumps,
@@ -156,15 +156,17 @@ impl Reason {
 impl fmt::Display for Reason {
     fn fmt(&self, f: &mut fmt::Formatter<'_>) -> fmt::Result {
         f.write_str(match self {
-            Self::CutOff => "the bytes end within a block",
+            Self::CutOff => "the bytes end within a block, or within the six bytes of the end block",
             Self::BlockOrder => {
-                "the block's number is not above the one before it, or is above the greatest, 32765"
+                "the block's number is not above the one before it, or is 32766 or above 32767, which no \
+                 block has"
             }
             Self::PlaceOrder => "the places of the block do not ascend",
             Self::Ones => "the block's bitmap has more or fewer ones than the block has ids",
             Self::Rank => "a rank of the block is not the count of ones before its stride",
             Self::EndBlock => {
-                "the end block is not FF 7F 00 00 FF FF, or 7F FF 00 00 FF FF high byte first"
+                "the end block, which a block numbered 32767 always is, is not FF 7F 00 00 FF FF, or 7F FF \
+                 00 00 FF FF high byte first"
             }
             Self::Jumps => {
                 "the jump entries are not those of the blocks: their count, or the one at this place"

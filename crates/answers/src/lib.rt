@@ -53,7 +53,7 @@ pub const ABSENT: u64 = 1;
 
 // The last target that was answered (document 02, [1]). Any is fit.
 pub struct Cursor {
-    pub last: u32,
+    pub last: u64,
 }
 
 impl Cursor {

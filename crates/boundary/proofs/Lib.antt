@@ -1,3 +1,4 @@
 -- Laws of the boundary.
-pub mod Shown
+pub mod NoEdition
 pub mod Judged
+pub mod Layering

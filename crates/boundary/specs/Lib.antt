@@ -1,4 +1,1 @@
-pub mod Boundary
-pub mod Layers
-pub mod Sets
-pub mod Sections
+pub mod Kinds

@@ -1,35 +1,39 @@
-// The answers on a machine column and a correction (document 02, [10]). A part is told to C by numbers: no reference is handed out.
+// The answers on a machine column and a correction (document 02, [10]), made of the words of two look-ups. A part is told to C by numbers:
+// no reference is handed out.
 ghost use mathlib.Core.Path.{_≡_};
-ghost use Rattle.layered.specs.Answers.{layerOf, layeredOf, partOf};
-ghost use Rattle.boundary.specs.Layers.{layerC, layeredC, partC};
-use answers::ABSENT;
-use answers::FOUND;
+ghost use Prim.Native.Nat.{ℕ};
+ghost use lib.ListN.{getD};
+ghost use Rattle.format.specs.Refusals.{Outcome};
+ghost use Rattle.format.specs.LookUp.{Look};
+ghost use Rattle.format.specs.Layered.{underneath, onTop};
+ghost use Rattle.answers.specs.Words.{answerWords, layerWord, layeredWords, partWords};
+ghost use Rattle.layered.specs.Answers.{layerOf, partOf};
+ghost use Rattle.boundary.specs.Kinds.{Apart};
 use layered::Layer;
-use layered::Layered;
 use layered::Part;
 
-// signalfern_layered
-#[repr(C)]
-pub struct CLayered {
-    pub kind: u64,
-    pub number: u64,
-    pub column: u64,
-    pub ordinal: u64,
-    pub value: i64,
-    pub machine_words: u64,
-    pub correction_words: u64,
+// signalfern_layered, where the correction's look-up, told so, does not say absent.
+pub fn put_on_top(out: &mut [u64; 7], told: &[u64; 6])
+    ensures { λ _. ⌜ ((n : ℕ) (above below : Outcome Look) → now (told .entry) ≡ answerWords n above → (getD (now (told .entry)) 0 0 ≡ 1 → ⊥)
+        → now (out .exit) ≡ layeredWords (onTop above below)) ⌝ }
+{
+    *out = [told[0], told[1], 1, told[2], told[3], 0, told[4]];
 }
 
-// signalfern_part
-#[repr(C)]
-pub struct CPart {
-    pub column: u64,
-    pub start: u64,
-    pub len: u64,
+// The same by the machine column's look-up, where so many words were counted in the correction. A refusal tells no words.
+pub fn put_underneath(out: &mut [u64; 7], counted: u64, told: &[u64; 6])
+    ensures { λ _. ⌜ ((n : ℕ) (below : Outcome Look) → now (told .entry) ≡ answerWords n below → Apart below
+        → now (out .exit) ≡ layeredWords (underneath counted below)) ⌝ }
+{
+    if 1 < told[0] {
+        *out = [told[0], told[1], 0, 0, 0, 0, 0];
+        return;
+    }
+    *out = [told[0], told[1], 0, told[2], told[3], told[4], counted];
 }
 
-fn layer_c(layer: Layer) -> u64
-    ensures { λ r. ⌜ r ≡ layerC (layerOf layer) ⌝ }
+fn layer_word(layer: Layer) -> u64
+    ensures { λ r. ⌜ r ≡ layerWord (layerOf layer) ⌝ }
 {
     match layer {
         Layer::Machine => 0,
@@ -37,56 +41,10 @@ fn layer_c(layer: Layer) -> u64
     }
 }
 
-pub fn layered_c(answer: Layered) -> CLayered
-    ensures { λ r. ⌜ r ≡ layeredC (layeredOf answer) ⌝ }
-{
-    match answer {
-        Layered::Found {
-            layer,
-            ordinal,
-            value,
-            machine_words,
-            correction_words,
-        } => CLayered {
-            kind: FOUND,
-            number: 0,
-            column: layer_c(layer),
-            ordinal,
-            value,
-            machine_words,
-            correction_words,
-        },
-        Layered::Absent {
-            machine_words,
-            correction_words,
-        } => CLayered {
-            kind: ABSENT,
-            number: 0,
-            column: 0,
-            ordinal: 0,
-            value: 0,
-            machine_words,
-            correction_words,
-        },
-        Layered::Refused(layer, why) => CLayered {
-            kind: why.number(),
-            number: why.number_with(),
-            column: layer_c(layer),
-            ordinal: 0,
-            value: 0,
-            machine_words: 0,
-            correction_words: 0,
-        },
-    }
-}
-
-pub fn part_c(part: Part) -> CPart
-    ensures { λ r. ⌜ r ≡ partC (partOf part) ⌝ }
+// signalfern_part
+pub fn put_part(out: &mut [u64; 3], part: Part)
+    ensures { λ _. ⌜ now (out .exit) ≡ partWords (partOf part) ⌝ }
 {
     let layer = part.layer;
-    CPart {
-        column: layer_c(layer),
-        start: part.start as u64,
-        len: part.len as u64,
-    }
+    *out = [layer_word(layer), part.start as u64, part.len as u64];
 }

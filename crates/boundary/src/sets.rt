@@ -1,23 +1,14 @@
 // The answer on a member of a set on disk (document 02, [14]).
 ghost use mathlib.Core.Path.{_≡_};
 ghost use Rattle.answers.specs.Replies.{betweenOf, memberOf};
-ghost use Rattle.boundary.specs.Boundary.{betweenC};
-ghost use Rattle.boundary.specs.Sets.{memberC, sameNumbers};
+ghost use Rattle.answers.specs.Words.{betweenWords, memberWords};
 use super::ranges;
 use answers::Between;
 use answers::Member;
 
-// signalfern_member
-#[repr(C)]
-pub struct CMember {
-    pub kind: u64,
-    pub number: u64,
-    pub ordinal: u64,
-}
-
-// The answer on a range that is told by the same numbers.
+// The answer on a range that is told by the same words.
 fn as_between(answer: Member) -> Between
-    ensures { λ r. ⌜ sameNumbers (betweenC (betweenOf r)) ≡ memberC (memberOf answer) ⌝ }
+    ensures { λ r. ⌜ betweenWords (betweenOf r) ≡ memberWords (memberOf answer) ⌝ }
 {
     match answer {
         Member::Found(ordinal) => Between::Found(ordinal),
@@ -26,13 +17,9 @@ fn as_between(answer: Member) -> Between
     }
 }
 
-pub fn member_c(answer: Member) -> CMember
-    ensures { λ r. ⌜ r ≡ memberC (memberOf answer) ⌝ }
+// signalfern_member
+pub fn put_member(out: &mut [u64; 3], answer: Member)
+    ensures { λ _. ⌜ now (out .exit) ≡ memberWords (memberOf answer) ⌝ }
 {
-    let told = ranges::between_c(as_between(answer));
-    CMember {
-        kind: told.kind,
-        number: told.number,
-        ordinal: told.ordinal,
-    }
+    ranges::put_between(out, as_between(answer));
 }

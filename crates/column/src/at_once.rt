@@ -1,7 +1,7 @@
 // A header whose numbers are short, read at once: what it says goes from call to call as single words.
 ghost use mathlib.Core.Path.{_≡_};
 ghost use mathlib.Core.List.{[], _∷_};
-ghost use Prim.Native.Nat.{_+_, _/_, _%_, _≤_};
+ghost use Prim.Native.Nat.{_+_, _≤_};
 ghost use lib.ListN.{length};
 ghost use Rattle.format.specs.Editions.{editions};
 ghost use Rattle.format.specs.Opening.{headFrom, openColumn};
@@ -17,18 +17,12 @@ use header_numbers::quick_number;
 use values::Edition;
 use values::Fields;
 
-// The value of a number that was read at once, and the place after it.
-fn value_in(q: u64) -> u64
-    ensures { λ r. ⌜ r ≡ q / 16 ⌝ }
+// The place after a number of so many bytes.
+fn place_after(at: usize, len: usize) -> usize
+    requires { ⌜ (at ≤ 45) × (len ≤ 5) ⌝ }
+    ensures { λ r. ⌜ (r ≡ at + len) × (r ≤ at + 5) ⌝ }
 {
-    q >> 4
-}
-
-fn place_after(at: usize, q: u64) -> usize
-    requires { ⌜ (at ≤ 45) × (q % 16 ≤ 5) ⌝ }
-    ensures { λ r. ⌜ (r ≡ at + q % 16) × (r ≤ at + 5) ⌝ }
-{
-    at + ((q % 16) as usize)
+    at + len
 }
 
 // No header: an id section is never empty.
@@ -65,50 +59,60 @@ fn quick_head(
     g: u64,
     v: u64,
 ) -> Head
-    ensures { λ r. ⌜ headIs r ≡ headFrom (editionOf edition) (n / 16 ∷ p / 16 ∷ l / 16 ∷ j / 16 ∷ w / 16 ∷ smallest / 16 ∷ g / 16 ∷ v / 16 ∷ []) ⌝ }
+    ensures { λ r. ⌜ headIs r ≡ headFrom (editionOf edition) (n ∷ p ∷ l ∷ j ∷ w ∷ smallest ∷ g ∷ v ∷ []) ⌝ }
 {
     Head {
         edition,
-        count: value_in(n),
-        power: value_in(p),
-        id_bytes: value_in(l),
-        jump_count: value_in(j),
+        count: n,
+        power: p,
+        id_bytes: l,
+        jump_count: j,
         fields: Fields {
-            width: value_in(w),
-            smallest: value_in(smallest),
-            divisor: value_in(g),
+            width: w,
+            smallest,
+            divisor: g,
         },
-        value_bytes: value_in(v),
+        value_bytes: v,
     }
 }
 
 // The numbers from w on, at a place after those of n, p, L and J.
 fn quick_values(bytes: &[u8], edition: Edition, n: u64, p: u64, l: u64, j: u64, at: usize) -> Column
     requires { ⌜ (at ≤ 21) × (45 ≤ length (now bytes)) ⌝ }
-    ensures { λ r. ⌜ ((r .head .«id_bytes» ≡ 0 → ⊥) → ReadOn (editionOf edition) (now (bytes .entry)) at (n / 16) (p / 16) (l / 16) (j / 16) (columnOf r)) ⌝ }
+    ensures { λ r. ⌜ ((r .head .«id_bytes» ≡ 0 → ⊥) → ReadOn (editionOf edition) (now (bytes .entry)) at n p l j (columnOf r)) ⌝ }
 {
     let w = quick_byte(bytes, at);
-    if w == 0 {
+    if w.len == 0 {
         return no_header();
     }
     let after_w = at + 1;
     let smallest = quick_number(bytes, after_w);
-    if smallest == 0 {
+    if smallest.len == 0 {
         return no_header();
     }
-    let after_smallest = place_after(after_w, smallest);
+    let after_smallest = place_after(after_w, smallest.len);
     let g = quick_number(bytes, after_smallest);
-    if g == 0 {
+    if g.len == 0 {
         return no_header();
     }
-    let after_g = place_after(after_smallest, g);
+    let after_g = place_after(after_smallest, g.len);
     let v = quick_more(bytes, after_g);
-    if v == 0 {
+    if v.len == 0 {
         return no_header();
     }
-    let start = place_after(after_g, v);
+    let start = place_after(after_g, v.len);
     Column {
-        head: quick_head(edition, n, p, l, j, w, smallest, g, v),
+        head: quick_head(
+            edition,
+            n,
+            p,
+            l,
+            j,
+            w.value,
+            smallest.value,
+            g.value,
+            v.value,
+        ),
         start: start as u64,
     }
 }
@@ -122,31 +126,31 @@ pub fn quick(bytes: &[u8]) -> Column
         return no_header();
     }
     let first = quick_byte(bytes, 0);
-    if first % 16 != 1 {
+    if first.len != 1 {
         return no_header();
     }
-    let Known::Is(edition) = edition_in(value_in(first)) else {
+    let Known::Is(edition) = edition_in(first.value) else {
         return no_header();
     };
     let n = quick_more(bytes, 1);
-    if n == 0 {
+    if n.len == 0 {
         return no_header();
     }
-    let after_n = place_after(1, n);
+    let after_n = place_after(1, n.len);
     let p = quick_byte(bytes, after_n);
-    if p == 0 {
+    if p.len == 0 {
         return no_header();
     }
     let after_p = after_n + 1;
     let l = quick_more(bytes, after_p);
-    if l == 0 {
+    if l.len == 0 {
         return no_header();
     }
-    let after_l = place_after(after_p, l);
+    let after_l = place_after(after_p, l.len);
     let j = quick_number(bytes, after_l);
-    if j == 0 {
+    if j.len == 0 {
         return no_header();
     }
-    let after_j = place_after(after_l, j);
-    quick_values(bytes, edition, n, p, l, j, after_j)
+    let after_j = place_after(after_l, j.len);
+    quick_values(bytes, edition, n.value, p.value, l.value, j.value, after_j)
 }

@@ -1,6 +1,6 @@
 // Header numbers, in groups of seven bits (document 01, "Header"): their length, writing and reading.
 ghost use mathlib.Core.Path.{_≡_};
-ghost use Prim.Native.Nat.{_+_, _%_, _≤_, _<_};
+ghost use Prim.Native.Nat.{_+_, _≤_, _<_};
 ghost use lib.ListN.{length, drop};
 ghost use lib.Seq.{sets};
 ghost use Rattle.format.specs.HeaderNumbers.{number, readNumber, readGroups};
@@ -109,76 +109,99 @@ pub fn read_number(s: &[u8], at: usize) -> Number
     read_rest(s, at, b - 128)
 }
 
-// A number of at most five bytes, 16 times, and its length; 0 for all else. One word, so that no answer goes through memory.
-pub fn quick_more(s: &[u8], at: usize) -> u64
+// A number of at most five bytes, and how many they are: 0 for all else. The length is told by the jumps alone and not by a sum with the
+// value, so that the place of what follows is guessed with them and waits for no byte (docs/DECISIONS.md, "Speed").
+pub struct Brief {
+    pub value: u64,
+    pub len: usize,
+}
+
+fn no_number() -> Brief
+    ensures { λ r. ⌜ r .len ≡ 0 ⌝ }
+{
+    Brief { value: 0, len: 0 }
+}
+
+// The number that starts at a place.
+pub fn quick_more(s: &[u8], at: usize) -> Brief
     requires { ⌜ at + 5 ≤ length (now s) ⌝ }
     ensures { λ r. ⌜ Quick (now (s .entry)) at r ⌝ }
 {
     let b0 = wide(s[at]);
     if b0 < 128 {
-        return b0 * 16 + 1;
+        return Brief { value: b0, len: 1 };
     }
     let i1 = at + 1;
     let b1 = wide(s[i1]);
     if b1 < 128 {
         if b1 == 0 {
-            return 0;
+            return no_number();
         }
-        return (b0 - 128 + 128 * b1) * 16 + 2;
+        return Brief {
+            value: b0 - 128 + 128 * b1,
+            len: 2,
+        };
     }
     let i2 = i1 + 1;
     let b2 = wide(s[i2]);
     if b2 < 128 {
         if b2 == 0 {
-            return 0;
+            return no_number();
         }
-        return (b0 - 128 + 128 * (b1 - 128) + 16384 * b2) * 16 + 3;
+        return Brief {
+            value: b0 - 128 + 128 * (b1 - 128) + 16384 * b2,
+            len: 3,
+        };
     }
     let i3 = i2 + 1;
     let b3 = wide(s[i3]);
     if b3 < 128 {
         if b3 == 0 {
-            return 0;
+            return no_number();
         }
-        return (b0 - 128 + 128 * (b1 - 128) + 16384 * (b2 - 128) + 2097152 * b3) * 16 + 4;
+        return Brief {
+            value: b0 - 128 + 128 * (b1 - 128) + 16384 * (b2 - 128) + 2097152 * b3,
+            len: 4,
+        };
     }
     let i4 = i3 + 1;
     let b4 = wide(s[i4]);
     if b4 < 128 {
         if b4 == 0 {
-            return 0;
+            return no_number();
         }
-        return (b0 - 128
-            + 128 * (b1 - 128)
-            + 16384 * (b2 - 128)
-            + 2097152 * (b3 - 128)
-            + 268435456 * b4)
-            * 16
-            + 5;
+        return Brief {
+            value: b0 - 128
+                + 128 * (b1 - 128)
+                + 16384 * (b2 - 128)
+                + 2097152 * (b3 - 128)
+                + 268435456 * b4,
+            len: 5,
+        };
     }
-    0
+    no_number()
 }
 
 // The same where one byte is likely.
-pub fn quick_number(s: &[u8], at: usize) -> u64
+pub fn quick_number(s: &[u8], at: usize) -> Brief
     requires { ⌜ at + 5 ≤ length (now s) ⌝ }
     ensures { λ r. ⌜ Quick (now (s .entry)) at r ⌝ }
 {
     let b = wide(s[at]);
     if b < 128 {
-        return b * 16 + 1;
+        return Brief { value: b, len: 1 };
     }
     quick_more(s, at)
 }
 
 // The same of one byte alone.
-pub fn quick_byte(s: &[u8], at: usize) -> u64
+pub fn quick_byte(s: &[u8], at: usize) -> Brief
     requires { ⌜ at < length (now s) ⌝ }
-    ensures { λ r. ⌜ (Quick (now (s .entry)) at r) × ((r ≡ 0 → ⊥) → r % 16 ≡ 1) ⌝ }
+    ensures { λ r. ⌜ (Quick (now (s .entry)) at r) × ((r .len ≡ 0 → ⊥) → r .len ≡ 1) ⌝ }
 {
     let b = wide(s[at]);
     if b < 128 {
-        return b * 16 + 1;
+        return Brief { value: b, len: 1 };
     }
-    0
+    no_number()
 }

@@ -12,7 +12,6 @@ ghost use Rattle.format.specs.LookUp.{halve, halving, halved, probesAt, strideL
 ghost use Rattle.blocks.specs.Kinds.{kindIs};
 ghost use Rattle.in_block.specs.Place.{placeOf, probesOf, Below, inOneWord, Searched};
 use blocks::Block;
-use blocks::Kind;
 
 mod by_count;
 
@@ -158,23 +157,24 @@ pub fn dense(s: &[u8], t: usize, p: usize, count: usize, r: usize) -> Inner
 
 // ---- steps 5 and 6
 
-// Where place r stands in the block.
+// Where place r stands in the block. It goes by the count, and not by the kind that was made of it: then neither is kept in a register.
 pub fn inner_of(s: &[u8], block: Block, p: usize, r: usize) -> Inner
     requires { ⌜ (Power p) × (r < blockPlaces) × (kindIs (block .kind) ≡ kindOf (block .count))
         × (block .start + dataBytes p (block .count) ≤ length (now s)) ⌝ }
     ensures { λ a. ⌜ (placeOf a ≡ placeAt halved p (now (s .entry)) (block .start) (block .count) r) × (Below (block .count) a)
         × (probesOf a ≡ probesAt (now (s .entry)) (block .start) (block .count) r) ⌝ }
 {
-    let kind = block.kind;
     let start = block.start;
     let count = block.count;
-    match kind {
-        Kind::Sparse => sparse(s, start, count, numbers::long(r)),
-        Kind::Dense => dense(s, start, p, count, r),
-        Kind::All => Inner::At {
-            inner: r as u32,
-            words: 0,
-            probes: 0,
-        },
+    if count < Block::DENSE_COUNT {
+        return sparse(s, start, count, numbers::long(r));
+    }
+    if count < Block::PLACES {
+        return dense(s, start, p, count, r);
+    }
+    Inner::At {
+        inner: r as u32,
+        words: 0,
+        probes: 0,
     }
 }

@@ -4,7 +4,7 @@ ghost use mathlib.Core.Path.{_≡_};
 ghost use Rattle.format.specs.Refusals.{Outcome};
 ghost use Rattle.format.specs.Editions.{editions};
 ghost use Rattle.format.specs.Opening.{openColumn};
-ghost use Rattle.format.specs.LookUp.{Look, lookUp, lookUpIn};
+ghost use Rattle.format.specs.LookUp.{Look, lookUp};
 ghost use Rattle.format.specs.Layered.{underneath, onTop, lookUpLayered, lookUpLayeredIn, noPart, sectionIn, layeredPart, IsPart};
 ghost use Rattle.answers.specs.Replies.{answerOf};
 ghost use Rattle.column.specs.Opened.{columnOf};
@@ -38,8 +38,8 @@ pub enum Layered {
 
 // ---- one column's answer
 
-// Looks one id up: 14, then 7 to 11, then 15. This and `answer_in` answer as the calls of `lookup`, which have one caller each and stay so:
-// docs/DECISIONS.md, "Speed".
+// Looks one id up: 14, then 7 to 11, then 15. It answers as `lookup::look_up`, but opens the column as every other call does: the header read
+// at once stays with the single look-up (docs/DECISIONS.md, "Speed").
 fn answer_from(bytes: &[u8], id: u32) -> Answer
     ensures { λ r. ⌜ answerOf r ≡ lookUp editions (now (bytes .entry)) id ⌝ }
 {
@@ -51,23 +51,6 @@ fn answer_from(bytes: &[u8], id: u32) -> Answer
         Opening::Refused(why) => Answer::Refused(why),
         Opening::Open(column) => lookup::steps_in(bytes, column, id),
     }
-}
-
-// The same in a column that was opened before: 14, then 10 or 11 where the column's numbers break a header rule or do not fit
-// these bytes, then 15.
-fn answer_in(column: Column, bytes: &[u8], id: u32) -> Answer
-    ensures { λ r. ⌜ answerOf r ≡ lookUpIn (now (bytes .entry)) (columnOf column) id ⌝ }
-{
-    if !column::id_ok(id) {
-        return Answer::Refused(Refusal::Id);
-    }
-    if !column::head_ok(column.head) {
-        return Answer::Refused(Refusal::Header);
-    }
-    if !column::length_ok(bytes, column) {
-        return Answer::Refused(Refusal::Length);
-    }
-    lookup::steps_in(bytes, column, id)
 }
 
 // ---- the look-up
@@ -147,10 +130,10 @@ pub fn look_up_layered_in(
         ⌜ layeredOf r
         ≡ lookUpLayeredIn (now (machine .entry)) (columnOf «machine_column») (now (correction .entry)) (columnOf «correction_column») id ⌝ }
 {
-    let top = top_of(answer_in(correction_column, correction, id));
+    let top = top_of(lookup::look_up_in(correction_column, correction, id));
     match top {
         Top::Settled(answer) => answer,
-        Top::Absent(words) => underneath(words, answer_in(machine_column, machine, id)),
+        Top::Absent(words) => underneath(words, lookup::look_up_in(machine_column, machine, id)),
     }
 }
 

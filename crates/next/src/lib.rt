@@ -192,11 +192,11 @@ fn refused(cursor: Cursor, why: Refusal) -> Next
 }
 
 // An answer moves it to the target.
-fn moved(target: u32, candidate: Candidate) -> Next
-    ensures { λ r. ⌜ (r .candidate ≡ candidate) × (r .cursor .last ≡ target) ⌝ }
+fn moved(last: u64, candidate: Candidate) -> Next
+    ensures { λ r. ⌜ (r .candidate ≡ candidate) × (r .cursor .last ≡ last) ⌝ }
 {
     Next {
-        cursor: Cursor { last: target },
+        cursor: Cursor { last },
         candidate,
     }
 }
@@ -204,16 +204,17 @@ fn moved(target: u32, candidate: Candidate) -> Next
 fn answered(cursor: Cursor, target: u32, sum: Sum) -> Next
     ensures { λ r. ⌜ Told (sumOf sum) (cursor .last) target r ⌝ }
 {
+    let last = numbers::wide32(target);
     if sum.kind == FOUND {
         let found = Candidate::Found {
             id: sum.id,
             ordinal: sum.ordinal,
             value: sum.value,
         };
-        return moved(target, found);
+        return moved(last, found);
     }
     if sum.kind == ABSENT {
-        return moved(target, Candidate::Nothing);
+        return moved(last, Candidate::Nothing);
     }
     refused(cursor, Refusal::Broken)
 }
@@ -222,7 +223,7 @@ fn answered(cursor: Cursor, target: u32, sum: Sum) -> Next
 fn goes_back(cursor: Cursor, target: u32) -> bool
     ensures { λ r. ⌜ r ≡ ltb target (cursor .last) ⌝ }
 {
-    target < cursor.last
+    (target as u64) < cursor.last
 }
 
 // In a column that was opened before: 14, 16, then 10 or 11 where the column's numbers break a header rule or do not fit these bytes,

@@ -1,46 +1,67 @@
-// The calls on a machine column and a correction (document 02, [10]).
+// The calls on a machine column and a correction (document 02, [10]): each is its two look-ups and the rule over them.
 ghost use mathlib.Core.Path.{_≡_};
 ghost use Rattle.format.specs.Editions.{editions};
 ghost use Rattle.format.specs.Layered.{lookUpLayered, lookUpLayeredIn, layeredPart};
-ghost use Rattle.boundary.specs.Boundary.{openedC};
-ghost use Rattle.boundary.specs.Layers.{layeredC, partC};
-use boundary::CColumn;
+ghost use Rattle.answers.specs.Words.{openedIn, layeredWords, partWords};
+use super::look_from;
+use super::look_in;
 use boundary::layers;
-use boundary::layers::CLayered;
-use boundary::layers::CPart;
-use layered::Layered;
 use layered::Part;
 
 #[no_mangle]
-pub extern "C" fn signalfern_look_up_layered(machine: &[u8], correction: &[u8], id: u32) -> CLayered
-    ensures { λ r. ⌜ r ≡ layeredC (lookUpLayered editions (now (machine .entry)) (now (correction .entry)) id) ⌝ }
-{
-    let answer: Layered = signalfern::look_up_layered(machine, correction, id);
-    layers::layered_c(answer)
-}
-
-#[no_mangle]
-pub extern "C" fn signalfern_look_up_layered_in(
-    machine_column: CColumn,
+pub extern "C" fn signalfern_look_up_layered_to(
     machine: &[u8],
-    correction_column: CColumn,
     correction: &[u8],
     id: u32,
-) -> CLayered
-    ensures { λ r.
-        ⌜ r
-        ≡ layeredC (lookUpLayeredIn (now (machine .entry)) (openedC «machine_column») (now (correction .entry)) (openedC «correction_column») id) ⌝ }
+    answer: &mut [u64; 7],
+)
+    ensures { λ _. ⌜ now (answer .exit) ≡ layeredWords (lookUpLayered editions (now (machine .entry)) (now (correction .entry)) id) ⌝ }
 {
-    let below = boundary::column_in(machine_column);
-    let above = boundary::column_in(correction_column);
-    let answer: Layered = signalfern::look_up_layered_in(below, machine, above, correction, id);
-    layers::layered_c(answer)
+    let mut above = [0u64; 6];
+    look_from(&mut above, &correction, id);
+    if above[0] != 1 {
+        layers::put_on_top(answer, &above);
+        return;
+    }
+    let mut below = [0u64; 6];
+    look_from(&mut below, &machine, id);
+    layers::put_underneath(answer, above[4], &below);
 }
 
 #[no_mangle]
-pub extern "C" fn signalfern_layered_values(machine: &[u8], correction: &[u8], id: u32) -> CPart
-    ensures { λ r. ⌜ r ≡ partC (layeredPart editions (now (machine .entry)) (now (correction .entry)) id) ⌝ }
+pub extern "C" fn signalfern_look_up_layered_in_to(
+    machine_column: &[u64; 12],
+    machine: &[u8],
+    correction_column: &[u64; 12],
+    correction: &[u8],
+    id: u32,
+    answer: &mut [u64; 7],
+)
+    ensures { λ _.
+        ⌜ now (answer .exit)
+        ≡ layeredWords (lookUpLayeredIn (now (machine .entry)) (openedIn (now («machine_column» .entry)))
+        (now (correction .entry)) (openedIn (now («correction_column» .entry))) id) ⌝ }
 {
-    let part: Part = signalfern::layered_part(machine, correction, id);
-    layers::part_c(part)
+    let mut above = [0u64; 6];
+    look_in(&mut above, correction_column, &correction, id);
+    if above[0] != 1 {
+        layers::put_on_top(answer, &above);
+        return;
+    }
+    let mut below = [0u64; 6];
+    look_in(&mut below, machine_column, &machine, id);
+    layers::put_underneath(answer, above[4], &below);
+}
+
+#[no_mangle]
+pub extern "C" fn signalfern_layered_values_to(
+    machine: &[u8],
+    correction: &[u8],
+    id: u32,
+    part: &mut [u64; 3],
+)
+    ensures { λ _. ⌜ now (part .exit) ≡ partWords (layeredPart editions (now (machine .entry)) (now (correction .entry)) id) ⌝ }
+{
+    let told: Part = signalfern::layered_part(machine, correction, id);
+    layers::put_part(part, told);
 }

@@ -3,21 +3,21 @@ ghost use mathlib.Core.Path.{_≡_};
 ghost use lib.ListN.{length};
 ghost use Rattle.format.specs.Editions.{editions};
 ghost use Rattle.format.specs.Page.{placeKind, placeOrdinal, placeValue, page, pageReply, pageAfter};
-ghost use Rattle.boundary.specs.Boundary.{pageC};
+ghost use Rattle.answers.specs.Words.{pageWords};
 use boundary::pages;
-use boundary::pages::CPage;
 
 #[no_mangle]
-pub extern "C" fn signalfern_look_up_page(
+pub extern "C" fn signalfern_look_up_page_to(
     bytes: &[u8],
     ids: &[u32],
     ordinals: &mut [u64],
     values: &mut [i64],
     kinds: &mut [u8],
-) -> CPage
-    ensures replies { λ r.
-        ⌜ r
-        ≡ pageC (length (now (ids .entry))) (pageReply (page editions (now (bytes .entry)) (now (ids .entry)) (length (now (ordinals .entry)))
+    reply: &mut [u64; 3],
+)
+    ensures replies { λ _.
+        ⌜ now (reply .exit)
+        ≡ pageWords (length (now (ids .entry))) (pageReply (page editions (now (bytes .entry)) (now (ids .entry)) (length (now (ordinals .entry)))
         (length (now (values .entry))) (length (now (kinds .entry))))) ⌝ }
     ensures ordinals_placed { λ _.
         ⌜ now (ordinals .exit)
@@ -33,6 +33,6 @@ pub extern "C" fn signalfern_look_up_page(
         (length (now (values .entry))) (length (now (kinds .entry)))) (now (kinds .entry)) ⌝ }
 {
     let n = ids.len();
-    let reply = signalfern::look_up_page(bytes, ids, ordinals, values, kinds);
-    pages::page_c(reply, n)
+    let told = signalfern::look_up_page(bytes, ids, ordinals, values, kinds);
+    pages::put_page(reply, told, n);
 }

@@ -1,24 +1,19 @@
 // The judge of a bare id section (document 02, [9]).
 ghost use mathlib.Core.Path.{_≡_};
 ghost use Rattle.format.specs.Judge.{judgeSection};
-ghost use Rattle.boundary.specs.Sections.{orderC, judgementC};
+ghost use Rattle.answers.specs.Words.{orderIn, judgementWords};
 use boundary::sections;
-use boundary::sections::CJudgement;
 
 #[no_mangle]
-pub extern "C" fn signalfern_judge_section(
+pub extern "C" fn signalfern_judge_section_to(
     bytes: &[u8],
     jump_count: u64,
     power: u64,
     high_first: u32,
-) -> CJudgement
-    ensures { λ r. ⌜ r ≡ judgementC (judgeSection (orderC «high_first») power «jump_count» (now (bytes .entry))) ⌝ }
+    judgement: &mut [u64; 4],
+)
+    ensures { λ _. ⌜ now (judgement .exit) ≡ judgementWords (judgeSection (orderIn «high_first») power «jump_count» (now (bytes .entry))) ⌝ }
 {
-    let judgement = signalfern::judge_section(
-        bytes,
-        jump_count,
-        power,
-        sections::order_c(high_first),
-    );
-    sections::judgement_c(judgement)
+    let told = signalfern::judge_section(bytes, jump_count, power, sections::order_in(high_first));
+    sections::put_judgement(judgement, told);
 }

@@ -59,3 +59,10 @@ pub fn turned(x: u64) -> u64
 {
     if x < HALF { x + HALF } else { x - HALF }
 }
+
+// A signed number in two's complement.
+pub fn bits_of(v: i64) -> u64
+    ensures { λ r. ⌜ r ≡ twos v ⌝ }
+{
+    turned(biased(v))
+}

@@ -37,6 +37,12 @@ impl Ran {
         self.expect_all(status, words)
     }
 
+    /// What an audit tells of ids, after what it tells of the files.
+    pub fn of_ids(&self) -> &str {
+        let start = self.out.find("\nid ").expect("an id is told of");
+        &self.out[start + 1..]
+    }
+
     /// A run with these words on either stream.
     #[track_caller]
     pub fn expect_all(self, status: i32, words: &[&str]) -> Self {

@@ -238,7 +238,7 @@ static int between(void)
     return 0;
 }
 
-static int same_next(signalfern_candidate c, uint64_t kind, uint64_t id, uint64_t ordinal, int64_t value, uint32_t last)
+static int same_next(signalfern_candidate c, uint64_t kind, uint64_t id, uint64_t ordinal, int64_t value, uint64_t last)
 {
     return c.kind == kind && c.number == 0 && c.id == id && c.ordinal == ordinal && c.value == value && c.cursor.last == last;
 }
@@ -283,6 +283,10 @@ static int next_refusals(signalfern_column column, const uint8_t *bytes, size_t 
     PROMISE(same_next(signalfern_next(seven, NULL, 0, 7), SIGNALFERN_SHORT, 0, 0, 0, 7));
     signalfern_candidate cut = signalfern_next(seven, bytes, 1, 8);
     PROMISE(cut.kind == SIGNALFERN_SHORT && cut.number == 1 && cut.id == 0 && cut.cursor.last == 7);
+    /* A cursor beyond all targets. */
+    const signalfern_cursor beyond = {(UINT64_C(1) << 32) + 7};
+    PROMISE(same_next(signalfern_next(beyond, bytes, len, 8), SIGNALFERN_BACK, 0, 0, 0, beyond.last));
+    PROMISE(same_next(signalfern_next_in(column, beyond, bytes, len, 8), SIGNALFERN_BACK, 0, 0, 0, beyond.last));
     /* Of any other column: the header rules, an edition that is none among them, then the length. */
     PROMISE(same_next(signalfern_next_in(column, seven, bytes, len - 1, 8), SIGNALFERN_LENGTH, 0, 0, 0, 7));
     column.edition = 5;
@@ -358,7 +362,7 @@ static int sections(void)
 
 static int next_candidates(void)
 {
-    PROMISE(sizeof(signalfern_cursor) == 4);
+    PROMISE(sizeof(signalfern_cursor) == 8);
     PROMISE(sizeof(signalfern_candidate) == 48 && offsetof(signalfern_candidate, cursor) == 40);
     const uint32_t ids[] = {4, SIGNALFERN_MAX_ID};
     const int64_t values[] = {-1, 9};
@@ -385,6 +389,61 @@ static int same_layered(signalfern_layered a, uint64_t kind, uint64_t column, ui
 static int same_part(signalfern_part part, uint64_t column, uint64_t start, uint64_t len)
 {
     return part.column == column && part.start == start && part.len == len;
+}
+
+/* Each call writes its whole answer, whatever stood there: found, absent or none, and refused. */
+#define WRITES(type, ...)                                    \
+    do {                                                     \
+        type one, other;                                     \
+        type *answer = &one;                                 \
+        memset(&one, 0x5A, sizeof one);                      \
+        memset(&other, 0xA5, sizeof other);                  \
+        __VA_ARGS__;                                         \
+        answer = &other;                                     \
+        __VA_ARGS__;                                         \
+        PROMISE(memcmp(&one, &other, sizeof one) == 0);      \
+    } while (0)
+
+static int whole_answers(void)
+{
+    const uint32_t ids[] = {4, 6};
+    const int64_t values[] = {10, 12};
+    uint32_t read_ids[2];
+    int64_t read_values[2], table[256];
+    uint64_t ordinals[2];
+    uint8_t kinds[2], bytes[64], set[16], out[64];
+    const uint8_t section[] = {0, 0, 1, 0, 2, 0, 7, 0, 0xFF, 0x7F, 0, 0, 0xFF, 0xFF};
+    size_t len = signalfern_write(ids, 2, values, 2, SIGNALFERN_RUNS, 9, bytes, sizeof bytes).number;
+    size_t set_len = signalfern_set_write(ids, 2, set, sizeof set).number;
+    signalfern_column column = signalfern_open(bytes, len);
+    PROMISE(column.refusal == 0 && set_len < sizeof set);
+    for (size_t n = 0; n < 2; n++) {
+        /* With all the bytes or one less; the second id asked for is absent. */
+        WRITES(signalfern_reply, signalfern_write_to(ids, 2, values, 2, SIGNALFERN_RUNS, 9, bytes, len - n, answer));
+        WRITES(signalfern_reply, signalfern_write_planned_to(ids, 2, values, 2, NULL, 0, 9, out, n * sizeof out, answer));
+        WRITES(signalfern_reply, signalfern_plan_to(values, 2, table, 256 - n, answer));
+        WRITES(signalfern_reply, signalfern_check_to(bytes, len - n, answer));
+        WRITES(signalfern_reply, signalfern_read_to(bytes, len, read_ids, 2 - n, read_values, 2, answer));
+        WRITES(signalfern_column, signalfern_open_to(bytes, len - n, answer));
+        WRITES(signalfern_page, signalfern_look_up_page_to(bytes, len, ids, 2, ordinals, 2 - n, table, 2, kinds, 2, answer));
+        WRITES(signalfern_reply, signalfern_set_write_to(ids, 2, set, set_len - n, answer));
+        WRITES(signalfern_reply, signalfern_set_check_to(set, set_len - n, answer));
+        WRITES(signalfern_judgement, signalfern_judge_section_to(section, 14 - n, 0, 9, 0, answer));
+        WRITES(signalfern_judgement, signalfern_judge_section_to(section, 14, 0, 6, 0, answer));
+        for (uint32_t id = 6; id < 8; id++) {
+            WRITES(signalfern_answer, signalfern_look_up_to(bytes, len - n, id, answer));
+            WRITES(signalfern_answer, signalfern_look_up_in_to(&column, bytes, len - n, id, answer));
+            WRITES(signalfern_candidate, signalfern_next_to(5, bytes, len - n, id, answer));
+            WRITES(signalfern_candidate, signalfern_next_in_to(&column, 5, bytes, len - n, id, answer));
+            WRITES(signalfern_between, signalfern_first_between_to(bytes, len - n, 2 * id, 99, answer));
+            WRITES(signalfern_between, signalfern_first_between_in_to(&column, bytes, len - n, 2 * id, 99, answer));
+            WRITES(signalfern_layered, signalfern_look_up_layered_to(bytes, len - n, bytes, len, id, answer));
+            WRITES(signalfern_layered, signalfern_look_up_layered_in_to(&column, bytes, len, &column, bytes, len - n, id, answer));
+            WRITES(signalfern_part, signalfern_layered_values_to(bytes, len - n, bytes, len, id, answer));
+            WRITES(signalfern_member, signalfern_set_find_to(set, set_len - n, id, answer));
+        }
+    }
+    return 0;
 }
 
 /* A machine column of (4, 10), (6, 12), and a correction of (6, -3), (8, 5) at another rank power. */
@@ -553,5 +612,5 @@ int main(void)
     PROMISE(memcmp(&column, &refused, sizeof column) == 0);
     PROMISE(same_answer(signalfern_look_up_in(column, out, len, 4), SIGNALFERN_HEADER, 0, 0, 0, 0));
     return editions() || plans() || pages() || next_candidates() || between() || corrections() || refused_columns() ||
-           sets() || sections();
+           sets() || sections() || whole_answers();
 }

@@ -39,7 +39,7 @@ fn refused() {
     let starts = [
         "as it was written: sound, 3 pairs",
         "cut off: refusal 11, LENGTH: ",
-        "cut off early: refusal 7, SHORT: the bytes, 5 in all, end within the header",
+        "cut off early: refusal 7, SHORT: the bytes, 5 in all, end within a number of the header",
         "a byte changed: refusal 13, DAMAGED: ",
         "a text: refusal 9, EDITION: ",
     ];

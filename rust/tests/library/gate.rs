@@ -1,16 +1,15 @@
-//! The gate's status and its last line, the sum over all its steps: `.ci/run`, with an `rt`, a `cargo` and a
-//! `.ci/contracts` that say at once what the real ones would.
+//! The gate's status and its last line, the sum over all its steps: `.ci/run`, with an `rt`, a `cargo` and
+//! other scripts that say at once what the real ones would.
 
 use std::path::Path;
 use std::process::Command;
 
 use crate::common::tool::{script, Folder, Ran};
 
-/// `rt ci` where all is proved; the archive is built only where what it is made of is.
+/// `rt ci` where all is proved.
 const PROVED: &str = "case $1 in
-ci) mkdir -p target/stamp target/rlib; touch target/stamp/signalfern; sleep 0.1
+ci) mkdir -p target/stamp; touch target/stamp/signalfern; sleep 0.1
     touch target/stamp/boundary target/stamp/demands; echo 'rt: ok'; echo '148 passed, 0 failed' ;;
-staticlib) [ -f target/stamp/boundary ] && mkdir -p target/staticlib ;;
 esac";
 
 /// One crate is not proved: the library, say.
@@ -22,11 +21,16 @@ echo 'test result: ok. 2 passed; 0 failed; 1 ignored; 0 measured'";
 const ONE_TEST_FAILS: &str = "echo 'test result: FAILED. 4 passed; 1 failed; 0 ignored; 0 measured'
 echo 'test result: ok. 2 passed; 0 failed; 0 ignored; 0 measured'; exit 101";
 
+/// The archive, which is built only where what it is made of is proved.
+const ARCHIVE: &str = "[ -f target/stamp/signalfern ] && [ -f target/stamp/boundary ] || exit 1
+mkdir -p $1/target/staticlib; touch $1/target/staticlib/libsignalfern_c.a
+echo 'dist: 3 passed, 0 failed'; echo '1 passed, 0 failed, 1 skipped'";
+
 /// The gate in a folder of its own, where no other programs are found than these.
 fn gate(rt: &str, cargo: Option<&str>) -> (i32, String) {
     let folder = Folder::new("gate");
     let made = folder.shell(
-        "mkdir bin crates rust temporary; touch crates.txt
+        "mkdir bin crates python rust temporary; touch crates.txt
          for program in awk bash cat chmod cp df dirname findmnt grep ln mkdir mktemp nproc rm sleep tee touch; do
              found=$(command -v $program) && ln -s \"$found\" bin
          done; :",
@@ -37,7 +41,13 @@ fn gate(rt: &str, cargo: Option<&str>) -> (i32, String) {
     let copied = copy.arg("-R").arg(scripts).arg(&folder.0).status();
     assert!(copied.unwrap().success());
     let contracts = "echo 'contracts: 22 passed, 0 failed'";
-    script(&folder.0.join(".ci/contracts"), contracts);
+    for (name, body) in [
+        (".ci/archive", ARCHIVE),
+        (".ci/contracts", contracts),
+        ("python/test", "echo '3 passed, 0 failed'"),
+    ] {
+        script(&folder.0.join(name), body);
+    }
     script(&folder.0.join("bin/rt"), rt);
     if let Some(cargo) = cargo {
         script(&folder.0.join("bin/cargo"), cargo);
@@ -63,22 +73,32 @@ fn the_last_line_counts_all_and_what_did_not_run() {
             PROVED,
             Some(TESTS_PASS),
             0,
-            "177 passed, 0 failed, 1 skipped",
+            "184 passed, 0 failed, 2 skipped",
         ),
-        (PROVED, Some(&late), 0, "177 passed, 0 failed, 1 skipped"),
+        (PROVED, Some(&late), 0, "184 passed, 0 failed, 2 skipped"),
         (
             PROVED,
             Some(&passed_over),
             0,
-            "176 passed, 0 failed, 2 skipped",
+            "183 passed, 0 failed, 3 skipped",
         ),
-        (PROVED, Some(ONE_TEST_FAILS), 1, "176 passed, 1 failed"),
-        (PROVED, Some("exit 101"), 1, "170 passed, 1 failed"),
-        (PROVED, Some("exit 0"), 1, "170 passed, 1 failed"),
-        (PROVED, Some(killed), 1, "170 passed, 1 failed"),
-        (PROVED, None, 1, "170 passed, 1 failed"),
-        (NOT_PROVED, Some(TESTS_PASS), 1, "140 passed, 3 failed"),
-        (killed, Some(TESTS_PASS), 1, "0 passed, 3 failed"),
+        (
+            PROVED,
+            Some(ONE_TEST_FAILS),
+            1,
+            "183 passed, 1 failed, 1 skipped",
+        ),
+        (
+            PROVED,
+            Some("exit 101"),
+            1,
+            "177 passed, 1 failed, 1 skipped",
+        ),
+        (PROVED, Some("exit 0"), 1, "177 passed, 1 failed, 1 skipped"),
+        (PROVED, Some(killed), 1, "177 passed, 1 failed, 1 skipped"),
+        (PROVED, None, 1, "177 passed, 1 failed, 1 skipped"),
+        (NOT_PROVED, Some(TESTS_PASS), 1, "143 passed, 4 failed"),
+        (killed, Some(TESTS_PASS), 1, "3 passed, 4 failed"),
     ] {
         assert_eq!(
             gate(rt, cargo),

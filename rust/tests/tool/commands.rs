@@ -38,13 +38,13 @@ fn there_and_back() {
     let bytes = fs::read(&column).unwrap();
     run_with(&["check", "-"], &bytes).expect(0, &["standard input: sound, 0 pairs"]);
     run(&["show", &column]).expect(0, &["Blocks of 65536 ids (0)"]);
-    assert_eq!(folder.names(), ["again", "column", "list"]);
+    assert_eq!(folder.names(), ["again", "column", "column.sha256", "list"]);
 }
 
 #[test]
 fn lists_that_are_refused_leave_nothing() {
     let folder = Folder::new("refused_lists");
-    let kept = folder.put("kept", "as it was");
+    let kept = folder.put("kept", small_column());
     for (text, words) in [
         ("1 2\n\n4 4\n4 5\n", &["line 4: refusal 3, ORDER"][..]),
         ("7 1\n2147352576 4\n", &["line 2: refusal 4, RANGE"]),
@@ -61,7 +61,7 @@ fn lists_that_are_refused_leave_nothing() {
         }
         run_with(&["write", "-o", &kept], text.as_bytes()).expect(1, words);
         assert_eq!(folder.names(), ["kept", "list"]);
-        assert_eq!(fs::read(&kept).unwrap(), b"as it was");
+        assert_eq!(fs::read(&kept).unwrap(), small_column());
     }
 }
 
@@ -200,11 +200,15 @@ fn the_demo() {
     let left = [
         "again.txt",
         "correction.column",
+        "correction.column.sha256",
         "correction.txt",
         "few.column",
+        "few.column.sha256",
         "few.txt",
         "runs.column",
+        "runs.column.sha256",
         "scores.column",
+        "scores.column.sha256",
         "scores.txt",
     ];
     assert_eq!(Folder(path.clone().into()).names(), left);

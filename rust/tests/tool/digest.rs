@@ -24,11 +24,11 @@ fn digests_are_those_of_sha256sum() {
         let digest = digest_of(&folder, "column");
         assert!(written.out.ends_with(&format!("bytes, SHA-256 {digest}\n")));
         let column = folder.path("column");
-        run(&["check", &column]).expect(0, &[&format!(", SHA-256 {digest}\n")]);
+        run(&["check", &column]).expect(0, &[&format!(", SHA-256 {digest} as ")]);
         let json = format!("\"sha256\":\"{digest}\"");
         run(&["check", "--json", &column]).expect(0, &[&json]);
         let told = run(&["check", &column, "--digest", &digest.to_uppercase()]);
-        told.expect(0, &["as --digest tells"]);
+        told.expect(0, &["as --digest and ", ".sha256 tells"]);
     }
 }
 
@@ -49,7 +49,7 @@ fn a_changed_score_is_sound_and_refused_by_its_digest() {
         "refusal 102, DIGEST",
         "SHA-256 of the file",
         &digest,
-        "do not use its values",
+        "do not use what it holds",
     ];
     run(&["check", &changed, "--digest", &digest]).expect(1, &words);
     run(&["check", "-q", &changed, "--digest", &digest]).expect(1, &words);
@@ -69,7 +69,7 @@ fn sidecars() {
     for name in ["column", "two words", "back\\slash", "line\nend", "-dash"] {
         let column = folder.path(name);
         let sidecar = format!("{column}.sha256");
-        run(&["write", &folder.path("list"), "--sidecar", "-o", &column]).expect(0, &["1 pair"]);
+        run(&["write", &folder.path("list"), "-o", &column]).expect(0, &["1 pair"]);
         folder
             .shell("for s in ./*.sha256; do sha256sum -c \"$s\" || exit 1; done")
             .expect(0, &[]);
@@ -91,7 +91,8 @@ fn sidecars() {
         fs::remove_file(&column).unwrap();
     }
     assert_eq!(folder.names(), ["list"]);
-    run(&["write", "--sidecar", "-o", "-"]).expect(2, &["--sidecar needs an output with a name"]);
+    run(&["write", "--sidecar", "-o", "-"])
+        .expect(2, &["--sidecar needs an output that is a file with a name"]);
 }
 
 /// A sidecar of the column before is not left unmentioned.
@@ -100,15 +101,15 @@ fn an_old_sidecar() {
     let folder = Folder::new("old_sidecar");
     folder.put("list", "1 1\n");
     let written = folder
-        .shell("signalfern write list --sidecar -o column")
+        .shell("signalfern write list -o column")
         .expect(0, &[]);
     let again = folder
-        .shell("signalfern write list -o column")
+        .shell("signalfern write list --no-sidecar -o column")
         .expect(0, &[]);
     assert_eq!(written.out, again.out);
     folder.put("list", "1 2\n");
-    let warned = folder.shell("signalfern write list -o column");
-    warned.expect_all(0, &["column.sha256 is of another column: take it away"]);
+    let warned = folder.shell("signalfern write list --no-sidecar -o column");
+    warned.expect_all(0, &["column.sha256 is of another file: take it away"]);
     folder
         .shell("signalfern check column")
         .expect(1, &["refusal 102, DIGEST"]);

@@ -41,7 +41,7 @@ fn written_and_shown() {
 fn the_same_answers() {
     let folder = Folder::new("editions_same");
     let [one, two] = both(&folder);
-    let list = folder.put("ids", "7 5 7\n");
+    let list = folder.put("ids", "7\n5\n7\n");
     for words in [
         &["read"][..],
         &["read", "--from", "1", "--limit", "1"],
@@ -77,7 +77,7 @@ fn the_bytes_that_hold_a_value() {
          stored number 1: 1, in 2 bits from bit 2 of the section on; 135 + 5 * 1 = 140\n  \
          byte 26 (0x1A): 07  0000[01]11\n"
     );
-    assert_eq!(ran.out, told);
+    assert_eq!(ran.of_ids(), told);
     // 12 bits each, over the borders of bytes: 0, 4095, 1111 (457 hex) are 00 F0 FF 57 04.
     let ids = [1, 2, 3];
     let wide = signalfern::write_to_vec(&ids, &[0, 4095, 1111], Edition::Lucene, 9).unwrap();
@@ -89,7 +89,7 @@ fn the_bytes_that_hold_a_value() {
     let told: Vec<String> = (bytes.iter())
         .map(|(at, bits)| format!("  byte {} (0x{:X}): {bits}", start + at, start + at))
         .collect();
-    assert_eq!(ran.out.lines().skip(3).collect::<Vec<_>>(), told);
+    assert_eq!(ran.of_ids().lines().skip(3).collect::<Vec<_>>(), told);
     let ran = run(&["audit", &wide, "3", "-c", &empty]).expect(0, &[]);
     let last = start + 4;
     assert!(

@@ -24,13 +24,15 @@ fn with(from: usize, to: usize, bytes: &[u8]) -> Vec<u8> {
 }
 
 const SHORT: &str = "signalfern: file: refusal 7, SHORT: the bytes, ";
-const CUT: &str = " in all, end within the header: the column is empty or cut off\n";
+const CUT: &str =
+    " in all, end within a number of the header, or of a set: they are empty or cut off\n";
 const AGAIN: &str = "What to do: take the file again from where it was written, and compare the \
 lengths by ls -l.\n";
 
-const NUMBER: &str = "signalfern: file: refusal 8, NUMBER: a number of the header is not in its \
+const NUMBER: &str =
+    "signalfern: file: refusal 8, NUMBER: a number of the header, or of a set, is not in its \
 shortest form or needs more than 64 bits, by byte ";
-const BAD: &str = " (from 0): the header is damaged, or this is no column\n";
+const BAD: &str = " (from 0): the bytes are damaged, or neither column nor set\n";
 
 /// What is told of a file in whole.
 #[track_caller]
@@ -142,9 +144,9 @@ fn by_json() {
     let ran = folder.shell("signalfern check --json bad cut other");
     let lines: Vec<&str> = ran.out.lines().collect();
     assert_eq!((ran.status, lines.len()), (1, 3), "{}", ran.err);
-    let bad = r#"{"file":"bad","status":"refused","refusal":8,"name":"NUMBER","meaning":"a number of the header is not in its shortest form or needs more than 64 bits, by byte 2 (from 0): the header is damaged, or this is no column","place":2,"header_number":"pairs (n)","details":["the bad byte is byte 2 (0x2), counted from 0, in pairs (n), header number 2 of 9, which starts at byte 1 (0x1)","it is 00 and ends a number of several bytes, which is then not in its shortest form","bytes 0 to 10 (0x0 to 0xA): 01 83 [00] 09 10 00 02 8E 02 05 01"],"advice":"take the file again, in binary mode, from where it was written; there `od -A d -t x1 -j 2 -N 1 FILE` shows what byte 2 must be"}"#;
+    let bad = r#"{"file":"bad","status":"refused","refusal":8,"name":"NUMBER","meaning":"a number of the header, or of a set, is not in its shortest form or needs more than 64 bits, by byte 2 (from 0): the bytes are damaged, or neither column nor set","place":2,"header_number":"pairs (n)","details":["the bad byte is byte 2 (0x2), counted from 0, in pairs (n), header number 2 of 9, which starts at byte 1 (0x1)","it is 00 and ends a number of several bytes, which is then not in its shortest form","bytes 0 to 10 (0x0 to 0xA): 01 83 [00] 09 10 00 02 8E 02 05 01"],"advice":"take the file again, in binary mode, from where it was written; there `od -A d -t x1 -j 2 -N 1 FILE` shows what byte 2 must be"}"#;
     assert_eq!(lines[0], bad);
-    let cut = r#"{"file":"cut","status":"refused","refusal":7,"name":"SHORT","meaning":"the bytes, 7 in all, end within the header: the column is empty or cut off","bytes":7,"header_number":"smallest value","details":["the file has 7 bytes (0x7) and ends within smallest value, header number 7 of 9, which starts at byte 6 (0x6)","bytes 0 to 6 (0x0 to 0x6): 01 03 09 10 00 02 8E and no more"],"advice":"take the file again from where it was written, and compare the lengths by ls -l"}"#;
+    let cut = r#"{"file":"cut","status":"refused","refusal":7,"name":"SHORT","meaning":"the bytes, 7 in all, end within a number of the header, or of a set: they are empty or cut off","bytes":7,"header_number":"smallest value","details":["the file has 7 bytes (0x7) and ends within smallest value, header number 7 of 9, which starts at byte 6 (0x6)","bytes 0 to 6 (0x0 to 0x6): 01 03 09 10 00 02 8E and no more"],"advice":"take the file again from where it was written, and compare the lengths by ls -l"}"#;
     assert_eq!(lines[1], cut);
     // Where the header did not break, there is no such field.
     assert!(lines[2].contains("\"LENGTH\"") && !lines[2].contains("header_number"));
@@ -175,8 +177,8 @@ fn every_command_names_the_byte() {
     let bad = folder.put("bad", with(1, 2, &[0x83, 0]));
     let cut = folder.put("cut", &THREE_PAIRS[..7]);
     for (file, words) in [
-        (&bad, "refusal 8, NUMBER: a number of the header is not in its shortest form or needs more than 64 bits, by byte 2 (from 0)"),
-        (&cut, "refusal 7, SHORT: the bytes, 7 in all, end within the header"),
+        (&bad, "refusal 8, NUMBER: a number of the header, or of a set, is not in its shortest form or needs more than 64 bits, by byte 2 (from 0)"),
+        (&cut, "refusal 7, SHORT: the bytes, 7 in all, end within a number of the header, or of a set"),
     ] {
         let check = format!("Try `signalfern check {file}`");
         run(&["read", file]).expect(1, &[words, &check]);

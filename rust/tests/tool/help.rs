@@ -4,9 +4,9 @@ use std::process::Command;
 
 use crate::common::tool::{has_program, has_programs, run, Folder};
 
-const COMMANDS: [&str; 12] = [
-    "write", "check", "read", "look-up", "next", "find", "audit", "show", "judge", "set", "demo",
-    "help",
+const COMMANDS: [&str; 15] = [
+    "write", "check", "read", "look-up", "next", "find", "stats", "diff", "audit", "show", "judge",
+    "set", "conform", "demo", "help",
 ];
 
 #[test]
@@ -28,6 +28,22 @@ fn help_of_all_and_of_each() {
         check.contains("does not mean that nobody changed a score"),
         "{check}"
     );
+}
+
+/// The README lists each command with the table's own words.
+#[test]
+fn the_readme_lists_every_command() {
+    let readme = concat!(env!("CARGO_MANIFEST_DIR"), "/../README.md");
+    let readme = std::fs::read_to_string(readme).unwrap();
+    for command in COMMANDS {
+        let object = run(&["help", command, "--json"]).expect(0, &[]).out;
+        let (_, rest) = object.split_once("\"summary\":\"").unwrap();
+        let (summary, _) = rest.split_once("\",").unwrap();
+        let is_listed = |line: &str| {
+            line.starts_with(&format!("    signalfern {command} ")) && line.contains(summary)
+        };
+        assert!(readme.lines().any(is_listed), "{command}: {summary}");
+    }
 }
 
 #[test]
@@ -79,10 +95,13 @@ fn usage() {
     run(&["look-up", "-", "7", "--correction", "-"]).expect(2, &[once]);
     run(&["look-up", "a", "-c", "-", "-i", "-"]).expect(2, &[once]);
     run(&["audit", "-", "7", "-c", "-"]).expect(2, &[once]);
-    run(&["audit", "a", "7"]).expect(2, &["no correction is named"]);
+    run(&["audit", "a", "7"]).expect(2, &["cannot read a"]);
     run(&["audit", "a", "-c", "b"]).expect(2, &["no id is named"]);
     run(&["audit", "a", "7x", "-c", "b"]).expect(2, &["`7x` is no id"]);
     run(&["help", "--man", "check"]).expect(2, &["one of them"]);
+    run(&["show", "a", "--json", "--html", "b"]).expect(2, &["--html or --json: one of them"]);
+    run(&["audit", "a", "7", "--json", "--html", "b"])
+        .expect(2, &["--html or --json: one of them"]);
     run(&["help", "--completions", "tcsh"]).expect(2, &["no completions for `tcsh`"]);
 }
 
@@ -148,8 +167,72 @@ fn completions_of_bash() {
     assert!(complete("signalfern write -p 1", 3).starts_with("10 11 12 13 14 15\n"));
     assert!(complete("signalfern write --edition ''", 3).starts_with("1 2 3 4\n"));
     assert!(complete("signalfern check a", 2).starts_with("a.column\n"));
-    assert!(complete("signalfern help c", 2).starts_with("check\n"));
+    assert!(complete("signalfern help ch", 2).starts_with("check\n"));
     assert!(complete("signalfern read a --limit ''", 4).starts_with('\n'));
+    assert!(complete("signalfern set ''", 2).starts_with("write check read find\n"));
+    assert!(complete("signalfern set find --i", 3).starts_with("--ids\n"));
+    assert!(complete("signalfern set check --i", 3).starts_with('\n'));
+    assert!(complete("signalfern set check a", 3).starts_with("a.column\n"));
+    assert!(complete("signalfern di", 1).starts_with("diff\n"));
+    // A name with spaces is one.
+    folder.put("two words.column", "");
+    let script = "eval \"$(signalfern help --completions bash)\"\n\
+                  COMP_WORDS=(signalfern check tw); COMP_CWORD=2; _signalfern\n\
+                  printf '%s|' \"${#COMPREPLY[@]}\" \"${COMPREPLY[0]}\"";
+    assert_eq!(
+        folder.shell(script).expect(0, &[]).out,
+        "1|two words.column|"
+    );
+}
+
+/// What fish offers, where it is there.
+#[test]
+fn completions_of_fish() {
+    let text = run(&["help", "--completions", "fish"]).expect(0, &[]).out;
+    assert!(text.contains("-n '__signalfern_at set check'"), "{text}");
+    if !has_program("fish") {
+        return;
+    }
+    let folder = Folder::new("fish_completions");
+    folder.put("completions.fish", text);
+    let offered = |line: &str| {
+        let script = format!("source completions.fish; complete -C \"{line}\"");
+        let ran = folder.shell(&format!(
+            "HOME=$PWD XDG_CONFIG_HOME=$PWD fish -c '{script}'"
+        ));
+        let words = ran.out.lines().filter_map(|line| line.split('\t').next());
+        words.map(str::to_string).collect::<Vec<_>>().join(" ")
+    };
+    assert_eq!(offered("signalfern set "), "check find read write");
+    assert_eq!(
+        offered("signalfern set check --"),
+        "--digest --json --quiet"
+    );
+    assert!(offered("signalfern check --").contains("--quiet"));
+    assert!(offered("signalfern di").contains("diff"));
+}
+
+/// Sourced, the completions of zsh tell it of their function; found in a folder of `fpath`, they are its body.
+#[test]
+fn completions_of_zsh_when_sourced() {
+    let text = run(&["help", "--completions", "zsh"]).expect(0, &[]).out;
+    assert!(text.contains("compdef _signalfern signalfern"), "{text}");
+    assert!(
+        text.contains("'1:action:(write check read find)'"),
+        "{text}"
+    );
+    if !has_program("zsh") {
+        return;
+    }
+    let folder = Folder::new("zsh_sourced");
+    folder.put("_signalfern", text);
+    let script = "autoload -Uz compinit; compinit -u -d $PWD/dump; source ./_signalfern; echo $_comps[signalfern]";
+    let ran = folder.shell(&format!("zsh -f -c '{script}' 2>&1"));
+    assert_eq!(ran.out, "_signalfern\n");
+    let script =
+        "fpath=($PWD $fpath); autoload -Uz compinit; compinit -u -d $PWD/dump2; echo $_comps[signalfern]";
+    let ran = folder.shell(&format!("zsh -f -c '{script}' 2>&1"));
+    assert_eq!(ran.out, "_signalfern\n");
 }
 
 /// The other shells, where they are there, read their completions without complaint.
@@ -161,13 +244,13 @@ fn completions_of_other_shells() {
             "zsh",
             [
                 "#compdef signalfern",
-                "--sidecar[",
+                "--no-sidecar[",
                 "'look-up:ask for single ids'",
             ],
         ),
         (
             "fish",
-            ["complete -c signalfern", "-l sidecar", "-a look-up"],
+            ["complete -c signalfern", "-l no-sidecar", "-a look-up"],
         ),
     ] {
         let text = run(&["help", "--completions", shell]).expect(0, &words).out;

@@ -26,8 +26,11 @@ fn accepted_in_both_orders() {
     let ran = run_with(&["judge", "-", "-j", "3", "-p", "15"], &SECTION).expect(0, &[]);
     assert_eq!(ran.out, format!("standard input: {told}"));
     // Each in the other order.
-    run(&["judge", &eight, "-j3", "-p9"]).expect(1, &["faulty, reason"]);
-    run(&["judge", &nine, "-j3", "-p9", "--lucene8"]).expect(1, &["faulty, reason"]);
+    let hint =
+        "What to do: judge it with --lucene8: high byte first, as Lucene 8 writes, it is accepted.";
+    run(&["judge", &eight, "-j3", "-p9"]).expect(1, &["faulty, reason", hint]);
+    let hint = "What to do: judge it without --lucene8: low byte first, as Lucene 9 writes, it is accepted.";
+    run(&["judge", &nine, "-j3", "-p9", "--lucene8"]).expect(1, &["faulty, reason", hint]);
     let mut shifted = SECTION;
     shifted[8] = 0;
     let file = folder.put("shifted", shifted);
@@ -76,9 +79,16 @@ fn what_is_faulty() {
     let section = folder.put("section", SECTION);
     let words = ["reason 7, JUMPS, at byte 20 (0x14)"];
     run(&["judge", &section, "-j2", "-p9"]).expect(1, &words);
-    for (jumps, power) in [("32768", "9"), ("3", "6"), ("3", "18446744073709551615")] {
-        let words = ["refusal 10, HEADER", "0 to 32767 jump entries"];
-        run(&["judge", &section, "-j", jumps, "-p", power]).expect(1, &words);
+    for (jumps, power, words) in [
+        ("32768", "9", "is no count of jump entries: 0 to 32767"),
+        ("3", "6", "is no rank power: 0, or 7 to 15"),
+        (
+            "3",
+            "18446744073709551615",
+            "is no rank power: 0, or 7 to 15",
+        ),
+    ] {
+        run(&["judge", &section, "-j", jumps, "-p", power]).expect(2, &[words, "--help"]);
     }
 }
 

@@ -20,7 +20,7 @@ fn which_column_spoke() {
                    4 254 by correction ordinal 1 words machine 0 correction 0\n\
                    5 absent words machine 0 correction 0\n";
     assert_eq!(ran.out, answers);
-    let list = folder.put("ids", "0 2\n4 5\n");
+    let list = folder.put("ids", "0\n2\n4\n5\n");
     let ran = run(&[&words[..], &["--ids", &list]].concat()).expect(0, &[]);
     assert_eq!(ran.out, answers);
     let from_pipe = ["look-up", &machine, "-c", "-", "2"];
@@ -99,7 +99,7 @@ fn the_bytes_that_hold_a_value() {
          stored number 2: 0, in 2 bits from bit 4 of the section on; 135 + 5 * 0 = 135\n  \
          byte 26 (0x1A): D0  1101[00]00\n"
     );
-    assert_eq!(ran.out, told);
+    assert_eq!(ran.of_ids(), told);
     // Of -1 and 254 stored are 0 and 1, with divisor 255, in the last byte.
     let ran = run(&["audit", &machine, "4", "-c", &correction]).expect(0, &[]);
     let len = folder.bytes("correction").len();
@@ -110,11 +110,14 @@ fn the_bytes_that_hold_a_value() {
     ];
     ran.expect(0, &words);
     let ran = run(&["audit", &machine, "5", "-c", &correction]).expect(0, &[]);
-    assert_eq!(ran.out, "id 5: in neither column\n");
+    assert_eq!(ran.of_ids(), "id 5: in neither column\n");
     let equal = folder.column("equal", &[5, 6], &[9, 9]);
     let ran = run(&["audit", &machine, "6", "-c", &equal]).expect(0, &[]);
     let told = format!("id 6: value 9, ordinal 1, by the correction column {equal}\n");
-    assert_eq!(ran.out, told + "  no bits are stored: every value is 9\n");
+    assert_eq!(
+        ran.of_ids(),
+        told + "  no bits are stored: every value is 9\n"
+    );
 }
 
 #[test]
@@ -142,5 +145,62 @@ fn a_value_over_several_bytes() {
         assert_eq!(format!("{:02X}", bytes[place]), byte);
         told.push(format!("  byte {place} (0x{place:X}): {byte}  {bits}"));
     }
-    assert_eq!(ran.out.lines().collect::<Vec<_>>(), told);
+    assert_eq!(ran.of_ids().lines().collect::<Vec<_>>(), told);
+}
+
+/// Without a correction, for many ids, and with both scores where the correction overrules.
+#[test]
+fn many_ids_and_both_scores() {
+    let (folder, machine, correction) = layers("audit_many");
+    let list = folder.put("ids", "7\n5\n");
+    let ran = run(&["audit", &machine, "0", "--ids", &list]).expect(0, &[]);
+    let section = "  value section: 1 byte, from byte 26 (0x1A) on\n  stored number ";
+    let told = format!(
+        "id 0: value 150, ordinal 0, by the column {machine}\n{section}\
+         0: 3, in 2 bits from bit 0 of the section on; 135 + 5 * 3 = 150\n  byte 26 (0x1A): D0  [11]010000\n\
+         id 7: value 135, ordinal 2, by the column {machine}\n{section}\
+         2: 0, in 2 bits from bit 4 of the section on; 135 + 5 * 0 = 135\n  byte 26 (0x1A): D0  1101[00]00\n\
+         id 5: not in the column\n"
+    );
+    assert_eq!(ran.of_ids(), told);
+    let digest = folder.shell("sha256sum < machine").out[..64].to_string();
+    let other = folder.shell("sha256sum < correction").out[..64].to_string();
+    let version = concat!("signalfern ", env!("CARGO_PKG_VERSION"), ", library ");
+    let words = [
+        version,
+        &digest,
+        &other,
+        "no digest was compared",
+        "machine column ",
+        "correction column ",
+    ];
+    let ran = run(&["audit", &machine, "2", "4", "-c", &correction]).expect(0, &words);
+    let len = folder.bytes("correction").len();
+    let overruled = format!(
+        "  byte {} (0x{:X}): 40  [0]1000000\n  it overrules value 140, ordinal 1, of the machine column {machine}\n    \
+         value section: 1 byte, from byte 26 (0x1A) on\n    \
+         stored number 1: 1, in 2 bits from bit 2 of the section on; 135 + 5 * 1 = 140\n    \
+         byte 26 (0x1A): D0  11[01]0000\nid 4: value 254",
+        len - 1,
+        len - 1
+    );
+    assert!(ran.out.contains(&overruled), "{}", ran.out);
+    let ran = run(&["audit", "--json", &machine, "2", "5", "-c", &correction]).expect(0, &[]);
+    let lines: Vec<&str> = ran.out.lines().collect();
+    assert_eq!(lines.len(), 3);
+    assert!(
+        lines[0].contains(&format!("\"sha256\":\"{digest}\",\"compared\":[]")),
+        "{}",
+        lines[0]
+    );
+    let told =
+        "{\"id\":2,\"answer\":\"found\",\"by\":\"correction\",\"value\":\"-1\",\"ordinal\":\"0\",";
+    assert!(lines[1].starts_with(told), "{}", lines[1]);
+    let told = "\"overruled\":{\"value\":\"140\",\"ordinal\":\"1\",\"section\":{\"start\":26,\"bytes\":1},\
+                \"stored\":\"1\",\"bits\":{\"first\":2,\"count\":2},\"sum\":\"135 + 5 * 1 = 140\",\
+                \"at\":[{\"place\":26,\"byte\":208,\"bits\":\"11[01]0000\"}]}}";
+    assert!(lines[1].ends_with(told), "{}", lines[1]);
+    assert_eq!(lines[2], "{\"id\":5,\"answer\":\"absent\"}");
+    let ran = run(&["audit", &machine, "7", "2147352576"]);
+    ran.expect(1, &["machine: id 2147352576: refusal 14, ID"]);
 }

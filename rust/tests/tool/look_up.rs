@@ -83,7 +83,7 @@ fn what_it_cost() {
 fn ids_from_a_file_or_standard_input() {
     let folder = Folder::new("ids");
     let column = folder.column("column", &[0, 2, 7], &[150, 140, 135]);
-    let list = folder.put("ids", "7 2\n\n  # none\n5\t0 # these\n");
+    let list = folder.put("ids", "7\n2\n\n  # none\n 5\n0 # these\n");
     // Costs are told of the id on the command line alone, which is asked for by itself.
     let answers = "2 140 ordinal 1 words 0 probes 1\n\
                    7 135 ordinal 2\n2 140 ordinal 1\n5 absent\n0 150 ordinal 0\n";
@@ -94,20 +94,20 @@ fn ids_from_a_file_or_standard_input() {
     let bytes = folder.bytes("column");
     let ran = run_with(&["look-up", "-", "--ids", &list], &bytes).expect(0, &[]);
     assert!(answers.ends_with(&ran.out));
-    // What is no id is told with its line, and the others are answered.
-    let list = folder.put("ids", "7\nx1\n4294967296\n2\n");
+    // An id above the limit is told with its line, and the others are answered, up to what is no id.
+    let list = folder.put("ids", "7\n4294967296\n2\nx1\n0\n");
     let ran = run(&["look-up", &column, "--ids", &list]);
     assert_eq!(ran.status, 1);
     assert_eq!(ran.out, "7 135 ordinal 2\n2 140 ordinal 1\n");
     assert!(
         ran.err
-            .contains("ids: line 2: refusal 101, TEXT: `x1` is no id"),
+            .contains("ids: line 4: refusal 101, TEXT: `x1` is no id"),
         "{}",
         ran.err
     );
     assert!(
         ran.err
-            .contains("ids: line 3: id 4294967296: refusal 14, ID"),
+            .contains("ids: line 2: id 4294967296: refusal 14, ID"),
         "{}",
         ran.err
     );
@@ -121,9 +121,9 @@ fn many_ids() {
     let listed: Vec<u32> = (0..70_000).filter(|id| id % 3 == 0).collect();
     let values: Vec<i64> = listed.iter().map(|&id| i64::from(id) * 10).collect();
     let column = folder.column("column", &listed, &values);
-    for count in [999, 1000, 1001, 2500] {
+    for count in [1, 1000, 65_537] {
         let ids: Vec<u32> = (0..count)
-            .map(|i| i * 7919 % 70_000 / 5 * 5)
+            .map(|i| i % 9000 * 7919 % 70_000 / 5 * 5)
             .rev()
             .collect();
         let mut expected = String::new();
@@ -133,11 +133,7 @@ fn many_ids() {
                 _ => format!("{id} absent\n"),
             };
         }
-        // Some to a line.
-        let lines = ids.chunks(3).map(|ids| {
-            let words: Vec<String> = ids.iter().map(u32::to_string).collect();
-            words.join(" ") + "\n"
-        });
+        let lines = ids.iter().map(|id| format!("{id}\n"));
         let list = folder.put("ids", lines.collect::<String>());
         let ran = run(&["look-up", &column, "--ids", &list]).expect(0, &[]);
         assert!(ran.out == expected, "{count}");
@@ -153,7 +149,10 @@ fn refused_ids_in_their_order() {
     let at = bytes.len() - 1 - 2 * 8 + 4;
     bytes[at] = 0xFF;
     let column = folder.put("column", &bytes);
-    let list = folder.put("ids", "2147352576 0\nx\n70000\n4294967295 0 99999999999\n");
+    let list = folder.put(
+        "ids",
+        "2147352576\n0\n70000\n4294967295\n0\n99999999999\nx\n0\n",
+    );
     let ran = run(&["look-up", "--unchecked", &column, "--ids", &list]);
     assert_eq!(
         (ran.status, ran.out.as_str()),
@@ -162,10 +161,10 @@ fn refused_ids_in_their_order() {
     let told = [
         "is not checked",
         "ids: line 1: id 2147352576: refusal 14, ID",
-        "ids: line 2: refusal 101, TEXT: `x` is no id",
         "column: id 70000: refusal 15, BROKEN",
         "ids: line 4: id 4294967295: refusal 14, ID",
-        "ids: line 4: id 99999999999: refusal 14, ID",
+        "ids: line 6: id 99999999999: refusal 14, ID",
+        "ids: line 7: refusal 101, TEXT: `x` is no id",
     ];
     assert_eq!(ran.err.lines().count(), told.len(), "{}", ran.err);
     for (line, words) in ran.err.lines().zip(told) {

@@ -3,13 +3,19 @@
 #[path = "../common/mod.rs"]
 mod common;
 
+mod asked;
 mod commands;
+mod compared;
+mod conform;
+mod damaged;
 mod diagnosis;
 mod digest;
+mod digests;
 mod editions;
 mod faults;
 mod header;
 mod help;
+mod json;
 mod judge;
 mod layered;
 mod look_up;
@@ -17,7 +23,12 @@ mod messages;
 mod next;
 mod output;
 mod parts;
+mod replaced;
+mod report;
 mod runs;
 mod set;
+mod sets;
 mod signals;
+mod streams;
 mod tables;
+mod texts;

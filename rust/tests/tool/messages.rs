@@ -16,8 +16,7 @@ fn causes_are_named() {
     let column =
         signalfern::write_to_vec(&[0, 2, 7], &[150, 140, 135], Edition::Plain, 10).unwrap();
     for (text, words) in [
-        (&b"\xEF\xBB\xBF1 2\n"[..], "line 1: refusal 101, TEXT: the text starts with a byte order mark (BOM)"),
-        (b"\xFF\xFE1\x002\x00", "this is UTF-16 text: save it as UTF-8"),
+        (&b"\xFF\xFE1\x002\x00"[..], "this is UTF-16 text: save it as UTF-8"),
         (&utf_16, "this is UTF-16 text: save it as UTF-8"),
         (&big_endian, "this is UTF-16 text: save it as UTF-8"),
         (&column, "this is a column already: `signalfern read` prints its pairs"),
@@ -29,6 +28,12 @@ fn causes_are_named() {
         (b"1 2\n\xE9 3\n", "line 2: refusal 101, TEXT: `\\xE9` is no id: a whole number from 0 to 2147352575; this is no UTF-8"),
         (b"1 2\n3 4 5\n", "line 2: refusal 101, TEXT: `5` is one word too many"),
         (b"-1 2\n", "`-1` is no id"),
+        ("1 \u{2212}5\n".as_bytes(), "there is the sign U+2212 in it where the plain minus sign, -, should stand"),
+        ("1\u{a0}5\n".as_bytes(), "there is the no-break space U+00A0 in it"),
+        ("1 12\u{202f}345\n".as_bytes(), "there is the no-break space U+202F in it"),
+        (b"1 2\r3 4\r5 6\r", "line 1: refusal 101, TEXT: `3` is one word too many: a line is `ID VALUE`; lines \
+          end in a return (CR) alone: change them to line feeds: `tr '\\r' '\\n'`"),
+        (b"{\"id\": 1}\n", "if these are JSON lines, read them as such: --format json"),
         (b"1 1.5\n", "`1.5` is no value: a whole number from -9223372036854775808"),
         (b"\n1 9223372036854775808\n", "line 2: refusal 101, TEXT: `9223372036854775808` is no value"),
         (b"1 2\n4294967296 3\n", "line 2: refusal 4, RANGE: `4294967296` is no id: it is above"),
@@ -111,11 +116,17 @@ fn strangers_are_named() {
         ),
         (
             b"\xEF\xBB\xBF0 150\n",
-            ["byte order mark", "the right file"],
+            [
+                "after a byte order mark, is `0 150`",
+                "signalfern write FILE -o COLUMN",
+            ],
         ),
         (
             b"\x1F\x8B\x08\x00\x00\x00",
-            ["this is a gzip file", "the right file"],
+            [
+                "this is a gzip file\n",
+                "What to do: unpack it first, and see whether it is then the right file.",
+            ],
         ),
         (
             b"\x7FELF\x02\x01\x01\x00",
@@ -133,4 +144,46 @@ fn strangers_are_named() {
         let file = folder.put("file", bytes);
         run(&["check", &file]).expect(1, &words);
     }
+}
+
+/// Zero bytes that a conversion of text took out.
+#[test]
+fn stripped_zeros() {
+    let folder = Folder::new("stripped");
+    for ids in [&[0, 2, 7][..], &[0, 2, 70_000], &[5], &[]] {
+        let values: Vec<i64> = ids.iter().map(|id| i64::from(*id) * 3).collect();
+        folder.column("column", ids, &values);
+        let ran = folder.shell("tr -d '\\0' < column > file; signalfern check file");
+        ran.expect(1, &["zero bytes were taken out of it", "in binary mode"]);
+    }
+}
+
+/// What is to be typed can be typed: names are quoted for a shell.
+#[test]
+fn names_in_advice() {
+    let folder = Folder::new("typed");
+    for name in ["two words", "it's", "-dash", "line\nend", "$x"] {
+        folder.put(name, "no column");
+        let ran = run(&["look-up", &folder.path(name), "7"]);
+        assert_eq!(ran.status, 1);
+        let (_, rest) = ran.err.split_once("Try `").unwrap();
+        let (command, _) = rest.rsplit_once('`').unwrap();
+        folder.shell(command).expect(1, &["refusal 9, EDITION"]);
+    }
+    let ran = folder.shell("signalfern look-up -- -dash 7");
+    ran.expect(1, &["Try `signalfern check ./-dash`"]);
+}
+
+#[test]
+fn words_that_people_try() {
+    for (word, meant) in [
+        ("get", "look-up"),
+        ("verify", "check"),
+        ("cat", "read"),
+        ("compare", "diff"),
+    ] {
+        let words = format!("there is no command `{word}`; did you mean `{meant}`?");
+        run(&[word, "a", "7"]).expect(2, &[&words]);
+    }
+    run(&["set", "raed", "a"]).expect(2, &["did you mean `read`?"]);
 }

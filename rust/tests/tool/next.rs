@@ -33,8 +33,8 @@ fn several() {
         assert_eq!(ran.out.lines().collect::<Vec<_>>(), expected);
     }
     let ran = run(&["next", "--count=3", "--json", &column, "9"]).expect(0, &[]);
-    let expected = "{\"target\":9,\"answer\":\"found\",\"id\":9,\"value\":-140,\"ordinal\":1}\n\
-        {\"target\":10,\"answer\":\"found\",\"id\":2147352575,\"value\":135,\"ordinal\":2}\n\
+    let expected = "{\"target\":9,\"answer\":\"found\",\"id\":9,\"value\":\"-140\",\"ordinal\":\"1\"}\n\
+        {\"target\":10,\"answer\":\"found\",\"id\":2147352575,\"value\":\"135\",\"ordinal\":\"2\"}\n\
         {\"target\":2147352576,\"answer\":\"none\"}\n";
     assert_eq!(ran.out, expected);
     let empty = folder.column("empty", &[], &[]);

@@ -78,7 +78,7 @@ fn pipes_and_devices_are_written_to() {
         2,
         &["cannot write to standard output: No space left on device"],
     );
-    assert_eq!(folder.names(), ["got", "list", "pipe"]);
+    assert_eq!(folder.names(), ["got", "list", "new.sha256", "pipe"]);
 }
 
 #[test]
@@ -127,7 +127,7 @@ fn outputs_and_options_are_tested_before_the_input() {
 #[test]
 fn links_stay_links() {
     let folder = Folder::new("links");
-    folder.put("column", "other");
+    folder.put("column", "");
     for (link, target) in [("link", "column"), ("dangling", "new")] {
         std::os::unix::fs::symlink(target, folder.path(link)).unwrap();
         run_with(&["write", "-o", &folder.path(link)], b"1 1\n").expect(0, &["1 pair"]);
@@ -136,7 +136,17 @@ fn links_stay_links() {
             .is_symlink());
         assert_eq!(folder.bytes(target), one_pair());
     }
-    assert_eq!(folder.names(), ["column", "dangling", "link", "new"]);
+    assert_eq!(
+        folder.names(),
+        [
+            "column",
+            "dangling",
+            "dangling.sha256",
+            "link",
+            "link.sha256",
+            "new"
+        ]
+    );
 }
 
 #[test]
@@ -177,7 +187,7 @@ fn read_only_files_are_replaced_by_force_alone() {
         fs::metadata(&kept).unwrap().permissions().mode() & 0o777,
         0o440
     );
-    assert_eq!(folder.names(), ["kept", "list"]);
+    assert_eq!(folder.names(), ["kept", "kept.sha256", "list"]);
 }
 
 /// A command before us that failed leaves us an empty input.
@@ -207,7 +217,10 @@ fn an_empty_standard_input_replaces_nothing() {
         .shell("signalfern write -fo kept < /dev/null")
         .expect(0, &["0 pairs"]);
     run(&["check", &kept]).expect(0, &["0 pairs"]);
-    assert_eq!(folder.names(), ["empty", "kept", "new"]);
+    assert_eq!(
+        folder.names(),
+        ["empty", "kept", "kept.sha256", "new", "new.sha256"]
+    );
 }
 
 #[test]
@@ -216,7 +229,8 @@ fn names_as_long_as_can_be() {
     let list = folder.put("list", "1 1\n");
     let name = "n".repeat(255);
     for _ in 0..2 {
-        run(&["write", &list, "-o", &folder.path(&name)]).expect(0, &["1 pair"]);
+        run(&["write", &list, "-o", &folder.path(&name)])
+            .expect_all(0, &["1 pair", "no digest beside", "the name is too long"]);
         assert_eq!(folder.bytes(&name), one_pair());
     }
     run(&["write", &list, "-o", &folder.path(&"n".repeat(256))]).expect(2, &["cannot write"]);
@@ -241,7 +255,7 @@ fn writers_side_by_side() {
         assert!(child.wait().unwrap().success());
     }
     assert_eq!(folder.bytes("column"), one_pair());
-    assert_eq!(folder.names(), ["column", "list"]);
+    assert_eq!(folder.names(), ["column", "column.sha256", "list"]);
 }
 
 /// A limit on files, as a quota sets one: the old file stays.

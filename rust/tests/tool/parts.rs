@@ -14,7 +14,8 @@ fn lines(pairs: &[(u32, i64)]) -> String {
 
 /// A part by its bounds beside the same part of the pairs.
 fn try_range(random: &mut Random, column: &str, pairs: &[(u32, i64)]) {
-    let (from, to) = (random.below(700_000) as u32, random.below(700_000) as u32);
+    let ends = [random.below(700_000) as u32, random.below(700_000) as u32];
+    let (from, to) = (ends[0].min(ends[1]), ends[0].max(ends[1]));
     let limit = random.pick(&[0, 1, 10, 5000, usize::MAX]);
     let [first, last, most] = [from.to_string(), to.to_string(), limit.to_string()];
     let words = [
@@ -172,8 +173,13 @@ fn json_of_each_file() {
 
 /// A run on a terminal, with what came there.
 fn on_terminal(folder: &Folder, before: &str, words: &str) -> String {
+    on_terminal_called("xterm", folder, before, words)
+}
+
+fn on_terminal_called(term: &str, folder: &Folder, before: &str, words: &str) -> String {
     let script = format!(
-        "rm -f pipe; mkfifo pipe; {before} &\nscript -qec \"$SIGNALFERN {words}\" /dev/null < /dev/null"
+        "rm -f pipe; mkfifo pipe; {before} &\n\
+         TERM={term} script -qec \"$SIGNALFERN {words}\" /dev/null < /dev/null"
     );
     folder.shell(&script).expect(0, &[]).out
 }
@@ -199,7 +205,7 @@ fn progress_goes_to_a_terminal() {
         seen.contains("printing: ") && seen.contains(" of 300000 pairs, "),
         "{seen}"
     );
-    let slow_ids = "{ echo 2; sleep 1.4; echo 7 7; } > pipe";
+    let slow_ids = "{ echo 2; sleep 1.4; printf '7\\n7\\n'; } > pipe";
     let seen = on_terminal(&folder, slow_ids, "look-up small --ids pipe > got");
     assert!(seen.contains("looking up pipe: 6 bytes"), "{seen}");
     let answers = "2 140 ordinal 1\n7 135 ordinal 2\n7 135 ordinal 2\n";
@@ -212,6 +218,12 @@ fn progress_goes_to_a_terminal() {
     let seen = on_terminal(&folder, slow_list, "write pipe -o new 2> messages");
     assert!(!seen.contains("reading pipe"), "{seen}");
     assert_eq!(folder.bytes("messages"), b"");
+    // A dumb terminal has no line that can be taken back.
+    let seen = on_terminal_called("dumb", &folder, slow_list, "write pipe -o new");
+    assert!(
+        !seen.contains('\u{1b}') && seen.contains("new: 3 pairs"),
+        "{seen}"
+    );
 }
 
 /// A column that comes slowly shows how far it is.

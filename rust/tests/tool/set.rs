@@ -15,7 +15,8 @@ fn written_checked_and_asked() {
     let bytes = [2, 0, 0, 2, 0, 0, 2, 0, 1, 0, 1, 0x70, 0x11];
     assert_eq!(folder.bytes("set"), bytes);
     let ran = run(&["set", "check", &set]).expect(0, &[]);
-    assert_eq!(ran.out, format!("{set}: sound, {about}{digest}\n"));
+    let told = format!("{set}: sound, {about}{digest} as {set}.sha256 tells\n");
+    assert_eq!(ran.out, told);
     let ran = run(&["set", "find", &set, "70000", "5", "0"]).expect(0, &[]);
     assert_eq!(ran.out, "70000 ordinal 2\n5 absent\n0 ordinal 0\n");
     let ran = run_with(&["set", "find", "-", "2"], &folder.bytes("set")).expect(0, &[]);
@@ -46,7 +47,7 @@ fn lists_that_are_refused() {
         run_with(&["set", "write", "-o", &set], list.as_bytes()).expect(1, &words);
     }
     assert!(folder.names().is_empty());
-    folder.put("set", [0]);
+    folder.put("set", [1, 0, 0, 1, 5, 0]);
     let words = ["standard input is empty", "empty set"];
     run(&["set", "write", "-o", &set]).expect(2, &words);
     run(&["set", "write", "-o", &set, "--force"]).expect(0, &["0 ids in 1 byte"]);
@@ -78,11 +79,17 @@ fn files_that_are_no_sets() {
 #[test]
 fn wrong_command_lines() {
     for (words, message) in [
-        (&["set"][..], "write, check or find"),
-        (&["set", "ask"], "`ask` is neither write, check nor find"),
+        (&["set"][..], "write, check, read or find"),
+        (
+            &["set", "ask"],
+            "`ask` is neither write, check, read nor find",
+        ),
         (&["set", "write", "a"], "no output is named"),
         (&["set", "check"], "no set is named"),
-        (&["set", "check", "a", "-f"], "`--force` is for `set write`"),
+        (
+            &["set", "check", "a", "-f"],
+            "`--force` is for `set write` and `set read`",
+        ),
         (
             &["set", "check", "-", "-"],
             "standard input can be checked once",

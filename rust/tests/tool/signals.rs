@@ -34,7 +34,7 @@ fn list(count: i64) -> String {
 fn start(folder: &Folder) -> Child {
     let (list, column) = (folder.path("list"), folder.path("column"));
     let mut tool = tool();
-    tool.args(["write", &list, "-o", &column])
+    tool.args(["write", &list, "-o", &column, "--force"])
         .stdout(Stdio::null());
     tool.spawn().unwrap()
 }
@@ -55,7 +55,7 @@ fn end_after(folder: &Folder, wait: Duration, name: &str, old: Option<&[u8]>, ne
     let is = fs::read(&column).ok();
     assert!(is.as_deref() == old || is.as_deref() == Some(new), "{name}");
     let names = folder.names();
-    let expected = |name: &String| name == "column" || name == "list";
+    let expected = |name: &String| ["column", "column.sha256", "list"].contains(&name.as_str());
     assert!(names.iter().all(expected), "{name}: {names:?}");
     in_time
 }
@@ -132,7 +132,7 @@ fn ended_between_the_file_and_its_name() {
     for nameless in [true, false] {
         for (name, number) in [("HUP", 1), ("INT", 2), ("TERM", 15), ("KILL", 9)] {
             let mut command = tool();
-            command.args(["write", &list, "-o", &column, "--sidecar"]);
+            command.args(["write", &list, "-o", &column, "--force"]);
             command
                 .env("LD_PRELOAD", &library)
                 .env("SLOW_RENAME", "3000");
@@ -168,7 +168,7 @@ fn file_systems_without_nameless_files() {
         command.env("LD_PRELOAD", &library).env("NO_NAMELESS", "1");
         assert_eq!(command.output().unwrap().status.code(), Some(status));
         assert_eq!(folder.bytes("column").len(), 21);
-        assert_eq!(folder.names(), ["column"]);
+        assert_eq!(folder.names(), ["column", "column.sha256"]);
     }
 }
 
@@ -190,6 +190,7 @@ fn a_signal_that_is_ignored_stays_so() {
             &list,
             "-o",
             &column,
+            "--force",
         ])
         .env("LD_PRELOAD", &library)
         .env("SLOW_RENAME", "1000")
@@ -200,5 +201,5 @@ fn a_signal_that_is_ignored_stays_so() {
     signal(&child, "HUP");
     assert_eq!(child.wait().unwrap().code(), Some(0));
     assert_eq!(folder.bytes("column").len(), 21);
-    assert_eq!(folder.names(), ["column"]);
+    assert_eq!(folder.names(), ["column", "column.sha256"]);
 }

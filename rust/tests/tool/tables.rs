@@ -153,7 +153,7 @@ fn the_same_answers() {
     let (ids, values) = scores();
     let plain = signalfern::write_to_vec(&ids, &values, Edition::Plain, 9).unwrap();
     let (plain, table) = (folder.put("plain", plain), folder.put("table", column()));
-    let list = folder.put("ids", "14 5 7\n");
+    let list = folder.put("ids", "14\n5\n7\n");
     for words in [
         &["read"][..],
         &["read", "--from", "5", "--limit", "3"],
@@ -172,9 +172,9 @@ fn the_same_answers() {
         let told = "6 -9223372036854775808 by correction ordinal 3 words machine 0 correction 0\n";
         assert_eq!(ran.out, told);
     }
-    // There is no directory to search by.
-    let words = "refusal 9, EDITION: values are searched for by the directory of edition 3";
-    run(&["find", &table, "0", "1"]).expect(1, &[words]);
+    // There is no directory to search by: all pairs are read.
+    let found = run(&["find", &table, "0", "1"]).expect(0, &[]);
+    assert_eq!(found.out, "0 1 ordinal 0\n");
 }
 
 /// The bits of the code, and the bytes of the entry.
@@ -192,7 +192,7 @@ fn the_bytes_that_hold_a_value() {
          byte 47 (0x2F): F9 FF FF FF FF FF FF FF, entry 1, low byte first\n"
     );
     let ran = run(&["audit", &table, "14", "-c", &empty]).expect(0, &[]);
-    assert_eq!(ran.out, told);
+    assert_eq!(ran.of_ids(), told);
 }
 
 #[test]

@@ -57,7 +57,7 @@ four-bytes c =
 returns : tie.Need-returns
 returns c =
     let a = c .before .before .before .before .args in
-    quick-is 1 (small-first (a .s .now) (a .at) (c .before .wide .ensures .0) (omega arith) (c .if1 .taken)) (omega arith) refl refl
+    quick-is 1 (small-first (a .s .now) (a .at) (c .before .wide .ensures .0) (omega arith) (c .if1 .taken)) (omega arith) refl refl refl
 
 returns-3 : tie.Need-returns-3
 returns-3 c =
@@ -66,7 +66,7 @@ returns-3 c =
     let a = f .before .before .before .before .args in
     quick-is 2
     (one-byte f ∙ last (a .s .now) (a .at + 1) (w .wide2 .ensures .0) (omega arith) 8 128 (sum1 f) (λ z. omega arith) (c .before .if2 .taken) (c .if3 .left))
-    (omega arith) refl (omega arith)
+    (omega arith) refl refl (omega arith)
 
 returns-5 : tie.Need-returns-5
 returns-5 c =
@@ -76,7 +76,7 @@ returns-5 c =
     quick-is 3
     (two-bytes f
     ∙ last (a .s .now) (a .at + 1 + 1) (w .wide3 .ensures .0) (omega arith) 7 16384 (sum2 f) (λ z. omega arith) (c .before .if4 .taken) (c .if5 .left))
-    (omega arith) refl (omega arith)
+    (omega arith) refl refl (omega arith)
 
 returns-7 : tie.Need-returns-7
 returns-7 c =
@@ -86,7 +86,7 @@ returns-7 c =
     quick-is 4
     (three-bytes f
     ∙ last (a .s .now) (a .at + 1 + 1 + 1) (w .wide4 .ensures .0) (omega arith) 6 2097152 (sum3 f) (λ z. omega arith) (c .before .if6 .taken) (c .if7 .left))
-    (omega arith) refl (omega arith)
+    (omega arith) refl refl (omega arith)
 
 returns-9 : tie.Need-returns-9
 returns-9 c =
@@ -97,24 +97,24 @@ returns-9 c =
     (four-bytes f
     ∙ last (a .s .now) (a .at + 1 + 1 + 1 + 1) (w .wide5 .ensures .0) (omega arith) 5 268435456 (sum4 f) (λ z. omega arith)
     (c .before .if8 .taken) (c .if9 .left))
-    (omega arith) refl (omega arith)
+    (omega arith) refl refl (omega arith)
 
 pub quick-more-spec : {M : Type 1} → statement M
 quick-more-spec =
     tie.close (tie.spec
-    (λ c. omega arith) (λ c κs. omega arith) (λ c. omega arith) (λ c. omega arith)
+    (λ c. omega arith) (λ c κs. omega arith)
     returns
-    (λ c. omega arith) (λ c. omega arith) (λ c κs. omega arith) (λ c. quick-none refl) (λ c. omega arith) (λ c. omega arith)
+    (λ c. omega arith) (λ c. omega arith) (λ c κs. omega arith) (λ c κs. omega arith) (λ c. quick-none (c .no-number .ensures))
     (λ c. omega arith) (λ c. omega arith)
     returns-3
-    (λ c. omega arith) (λ c. omega arith) (λ c κs. omega arith) (λ c. quick-none refl) (λ c. omega arith) (λ c. omega arith)
+    (λ c. omega arith) (λ c. omega arith) (λ c κs. omega arith) (λ c κs. omega arith) (λ c. quick-none (c .no-number2 .ensures))
     (λ c. omega arith) (λ c. omega arith) (λ c. omega arith) (λ c. omega arith)
     returns-5
-    (λ c. omega arith) (λ c. omega arith) (λ c κs. omega arith) (λ c. quick-none refl) (λ c. omega arith) (λ c. omega arith)
+    (λ c. omega arith) (λ c. omega arith) (λ c κs. omega arith) (λ c κs. omega arith) (λ c. quick-none (c .no-number3 .ensures))
     (λ c. omega arith) (λ c. omega arith) (λ c. omega arith) (λ c. omega arith) (λ c. omega arith) (λ c. omega arith)
     returns-7
-    (λ c. omega arith) (λ c. omega arith) (λ c κs. omega arith) (λ c. quick-none refl) (λ c. omega arith) (λ c. omega arith)
+    (λ c. omega arith) (λ c. omega arith) (λ c κs. omega arith) (λ c κs. omega arith) (λ c. quick-none (c .no-number4 .ensures))
     (λ c. omega arith) (λ c. omega arith) (λ c. omega arith) (λ c. omega arith) (λ c. omega arith) (λ c. omega arith)
     (λ c. omega arith) (λ c. omega arith)
     returns-9
-    (λ c. quick-none refl))
+    (λ c κs. omega arith) (λ c. quick-none (c .no-number5 .ensures)))

@@ -1,24 +1,35 @@
 -- `in_block::inner_of` meets its contract. Assumes nothing.
-use Rattle.format.specs.Kit.{_≡_, sym, ap, _∙_, ℕ, arith, needs}
-use Rattle.format.specs.Ids.{sparse, dense, all, kindOf}
-use Rattle.format.specs.LookUp.{inside}
-use Rattle.blocks.specs.Kinds.{kindIs}
-use Rattle.in_block.proofs.ByKind.{of-sparse, of-dense, of-all, sparse-count, all-count}
+use Rattle.format.specs.Kit.{_≡_, sym, _∙_, arith, needs}
+use Rattle.format.specs.Ids.{sparse, dense, kindOf}
+use Rattle.laws.proofs.Blocks.{kind-sparse, kind-dense, kind-all}
+use Rattle.in_block.proofs.ByKind.{of-sparse, of-dense, of-all}
 use Rattle.in_block.proofs.inner_of.Statement.{statement}
 use Rattle.in_block.proofs.inner_of.Tie as tie
 
-is-sparse : (c : tie.After-enum-told) → kindOf (c .before .before .before .args .block .count) ≡ sparse
-is-sparse c = sym (c .before .before .before .pre .2) ∙ ap kindIs (c .enum-told .given .1)
+is-sparse : (c : tie.Then1) → kindOf (c .before .before .args .block .count) ≡ sparse
+is-sparse c = kind-sparse _ (c .if1 .taken)
 
-is-dense : (c : tie.After-enum-told2) → kindOf (c .before .before .before .args .block .count) ≡ dense
-is-dense c = sym (c .before .before .before .pre .2) ∙ ap kindIs (c .enum-told2 .given .1)
+is-dense : (c : tie.Then2) → kindOf (c .before .before .before .args .block .count) ≡ dense
+is-dense c = kind-dense _ (omega (arith, c .before .if1 .left)) (c .if2 .taken)
+
+sparse-requires : tie.Need-sparse-requires
+sparse-requires c κs =
+    let a = c .before .before .before .args in
+    let f = of-sparse (a .p) (a .block .count) (a .s .now) (a .block .start) (a .r) (is-sparse (c .before)) in
+    (omega (arith, f .0), omega (arith, c .before .if1 .taken), omega arith)
 
 returns : tie.Need-returns
 returns c =
-    let a = c .before .before .before .before .before .args in
+    let a = c .before .before .before .before .args in
     let f = of-sparse (a .p) (a .block .count) (a .s .now) (a .block .start) (a .r) (is-sparse (c .before .before)) in
     let g = rw (c .before .long .ensures) at (c .sparse .ensures) in
     (g .0 .0 ∙ sym (f .1), g .1, g .0 .1 ∙ sym (f .2))
+
+dense-requires : tie.Need-dense-requires
+dense-requires c κs =
+    let s = c .before .before .before in
+    let b = s .args .block in
+    (s .pre .0, s .pre .1, omega (arith, of-dense (s .args .p) (b .count) (s .args .s .now) (b .start) (s .args .r) (is-dense c) .0))
 
 returns-2 : tie.Need-returns-2
 returns-2 c =
@@ -29,32 +40,18 @@ returns-2 c =
 
 returns-3 : tie.Need-returns-3
 returns-3 c =
-    let a = c .before .before .before in
-    let b = a .args .block in
-    let e : kindOf (b .count) ≡ all = sym (a .pre .2) ∙ ap kindIs (c .enum-told3 .given .1) in
-    let f = of-all (a .args .p) (b .count) (a .args .s .now) (b .start) (a .args .r) e in
-    (sym (f .0), omega (arith, all-count (b .count) e), sym (f .1))
-
-sparse-requires : tie.Need-sparse-requires
-sparse-requires c κs =
-    let a = c .before .before .before .before .args in
-    let e = is-sparse (c .before) in
-    (omega (arith, of-sparse (a .p) (a .block .count) (a .s .now) (a .block .start) (a .r) e .0), sparse-count (a .block .count) e, omega arith)
-
-dense-requires : tie.Need-dense-requires
-dense-requires c κs =
-    let a = c .before .before .before in
-    let b = a .args .block in
-    (a .pre .0, a .pre .1, omega (arith, of-dense (a .args .p) (b .count) (a .args .s .now) (b .start) (a .args .r) (is-dense c) .0))
+    let s = c .before .before .before in
+    let b = s .args .block in
+    let f = of-all (s .args .p) (b .count) (s .args .s .now) (b .start) (s .args .r) (kind-all (b .count) (omega (arith, c .if2 .left))) in
+    (sym (f .0), omega (arith, c .if2 .left), sym (f .1))
 
 pub inner-of-spec : {M : Type 1} → statement M
 inner-of-spec =
     tie.close (tie.spec
-    (λ c. search needs) (λ c κs. search needs)
+    (λ c κs. search needs)
     sparse-requires
-    (λ c. search needs)
-    dense-requires
-    (λ c. search needs) (λ c. search needs)
     returns
+    dense-requires
     returns-2
+    (λ c. search needs)
     returns-3)

@@ -13,7 +13,7 @@ returns c =
     let a = c .before .before .before .before .before .before .before .args in
     let t = c .before .before .before .top-of in
     let below = lookUpIn (a .machine .now) (columnOf (a .machine-column)) (a .id) in
-    settled (t .result) _ (t .ensures) below _ (c .before .top .given .1) ∙ ap (λ x. onTop x below) (c .before .before .before .before .answer-in .ensures)
+    settled (t .result) _ (t .ensures) below _ (c .before .top .given .1) ∙ ap (λ x. onTop x below) (c .before .before .before .before .look-up-in .ensures .0)
 
 returns-2 : tie.Need-returns-2
 unfolding lookUpLayeredIn
@@ -22,8 +22,8 @@ returns-2 c =
     let t = c .before .before .before .before .before .top-of in
     let f = c .before .before .before .top2 .given in
     let below = lookUpIn (a .machine .now) (columnOf (a .machine-column)) (a .id) in
-    c .underneath .ensures ∙ ap (underneath (f .0 .0)) (c .before .answer-in2 .ensures)
-    ∙ goes-on (t .result) _ (t .ensures) below _ (f .1) ∙ ap (λ x. onTop x below) (c .before .before .before .before .before .before .answer-in .ensures)
+    c .underneath .ensures ∙ ap (underneath (f .0 .0)) (c .before .look-up-in2 .ensures .0)
+    ∙ goes-on (t .result) _ (t .ensures) below _ (f .1) ∙ ap (λ x. onTop x below) (c .before .before .before .before .before .before .look-up-in .ensures .0)
 
 pub look-up-layered-in-spec : {M : Type 1} → statement M
 look-up-layered-in-spec =

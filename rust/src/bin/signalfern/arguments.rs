@@ -7,8 +7,10 @@ use std::path::PathBuf;
 use crate::command::{Choice, Command};
 use crate::failure::Failure;
 use crate::nearest::did_you_mean;
-use crate::pairs::parse_asked;
-use crate::text::{cut, quoted};
+use crate::sha256::Digest;
+use crate::sidecar::parse_digest;
+use crate::text::{cut, is_standard, quoted};
+use crate::words::parse_asked;
 
 /// What stood on the command line.
 pub struct Arguments {
@@ -149,6 +151,50 @@ impl Arguments {
         }
     }
 
+    /// A digest that an option gives.
+    pub fn digest(&self, long: &str) -> Result<Option<Digest>, Failure> {
+        let Some(word) = self.value(long) else {
+            return Ok(None);
+        };
+        match parse_digest(word.as_bytes()) {
+            Some(digest) => Ok(Some(digest)),
+            None => {
+                let word = quoted(word.as_bytes());
+                Err(self.usage(format!(
+                    "{word} is no SHA-256 digest: 64 hexadecimal digits"
+                )))
+            }
+        }
+    }
+
+    /// The digest of the correction, which must be named then.
+    pub fn correction_digest(&self) -> Result<Option<Digest>, Failure> {
+        let digest = self.digest("correction-digest")?;
+        if digest.is_some() && !self.has("correction") {
+            return Err(self.usage("--correction-digest is for a --correction"));
+        }
+        Ok(digest)
+    }
+
+    /// Refuses a report that is to be JSON too.
+    pub fn one_form(&self) -> Result<(), Failure> {
+        match self.has("html") && self.has("json") {
+            true => Err(self.usage("--html or --json: one of them")),
+            false => Ok(()),
+        }
+    }
+
+    /// Refuses that more than one of some files comes from standard input.
+    pub fn one_standard<'a>(
+        &self,
+        paths: impl IntoIterator<Item = &'a PathBuf>,
+    ) -> Result<(), Failure> {
+        match paths.into_iter().filter(|path| is_standard(path)).count() {
+            0 | 1 => Ok(()),
+            _ => Err(self.usage("only one file can come from standard input")),
+        }
+    }
+
     /// The next plain word.
     pub fn next(&mut self) -> Option<OsString> {
         self.words.next()
@@ -162,6 +208,18 @@ impl Arguments {
             .ok_or_else(|| command.usage(format!("no {what} is named")))
     }
 
+    /// All plain words that are left, which must be ids: their numbers, and as they were typed.
+    pub fn ids(&mut self) -> Result<Vec<(u32, String)>, Failure> {
+        let mut ids = Vec::new();
+        while let Some(word) = self.next() {
+            match parse_asked(word.as_bytes()) {
+                Ok(id) => ids.push((id, cut(word.as_bytes()))),
+                Err(wrong) => return Err(self.usage(wrong.parts().1)),
+            }
+        }
+        Ok(ids)
+    }
+
     /// The last plain word, which must be an id: as it was typed, and its number.
     pub fn last_id(&mut self) -> Result<(String, u32), Failure> {
         let Some(word) = self.next() else {
@@ -171,6 +229,46 @@ impl Arguments {
         match parse_asked(word.as_bytes()) {
             Ok(id) => Ok((cut(word.as_bytes()), id)),
             Err(wrong) => Err(self.usage(wrong.parts().1)),
+        }
+    }
+
+    /// The next plain word, which says what is to be done. Options of other actions are refused.
+    pub fn action(&mut self) -> Result<String, Failure> {
+        let actions = self.command.actions;
+        let names: Vec<&str> = actions.iter().map(|action| action.name).collect();
+        let Some(word) = self.next() else {
+            let names = listed(&names, "or");
+            return Err(self.usage(format!("what to do is not named: {names}")));
+        };
+        let Some(action) = actions.iter().find(|action| word == action.name) else {
+            let hint = did_you_mean(
+                &word.to_string_lossy(),
+                &names
+                    .iter()
+                    .map(|name| name.to_string())
+                    .collect::<Vec<_>>(),
+            );
+            let (word, names) = (quoted(word.as_bytes()), listed(&names, "nor"));
+            return Err(self.usage(format!("{word} is neither {names}{hint}")));
+        };
+        let is_other = |long: &&str| !action.options.contains(long);
+        match self
+            .chosen
+            .iter()
+            .map(|(long, _)| *long)
+            .find(|it| is_other(it))
+        {
+            None => Ok(action.name.to_string()),
+            Some(long) => {
+                let its = actions
+                    .iter()
+                    .filter(|action| action.options.contains(&long));
+                let its: Vec<String> = its
+                    .map(|it| format!("`{} {}`", self.command.name, it.name))
+                    .collect();
+                let its: Vec<&str> = its.iter().map(String::as_str).collect();
+                Err(self.usage(format!("`--{long}` is for {}", listed(&its, "and"))))
+            }
         }
     }
 
@@ -188,5 +286,13 @@ impl Arguments {
     /// A wrong command line.
     pub fn usage(&self, message: impl std::fmt::Display) -> Failure {
         self.command.usage(message)
+    }
+}
+
+/// Words as one would list them: `a, b or c`.
+fn listed(words: &[&str], last: &str) -> String {
+    match words.split_last() {
+        Some((end, front)) if !front.is_empty() => format!("{} {last} {end}", front.join(", ")),
+        _ => words.concat(),
     }
 }

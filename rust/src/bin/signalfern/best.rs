@@ -4,6 +4,7 @@ use std::fmt::Write;
 
 use signalfern::{Edition, Refusal};
 
+use crate::json::Object;
 use crate::pairs::Pairs;
 
 /// The editions, by number.
@@ -31,6 +32,32 @@ impl Sizes {
     pub fn best(&self) -> Edition {
         let least = self.0.iter().min_by_key(|(_, bytes)| bytes);
         least.map_or(Edition::default(), |&(edition, _)| edition)
+    }
+
+    /// The edition that is written where this one is told, or the best. Told 4, the writer gives 1 where no table
+    /// is shorter.
+    pub fn written(&self, told: Option<Edition>) -> Edition {
+        let edition = told.unwrap_or(self.best());
+        match self.bytes(edition) == self.bytes(Edition::Plain) {
+            true if edition == Edition::Table => Edition::Plain,
+            _ => edition,
+        }
+    }
+
+    /// The bytes in an edition.
+    pub fn bytes(&self, edition: Edition) -> usize {
+        let its = self.0.iter().find(|(other, _)| *other == edition);
+        its.map_or(0, |(_, bytes)| *bytes)
+    }
+
+    /// An object about each.
+    pub fn objects(&self) -> Vec<Object> {
+        let object = |&(edition, bytes): &(Edition, usize)| {
+            Object::new()
+                .number("edition", edition.number())
+                .number("bytes", bytes as u64)
+        };
+        self.0.iter().map(object).collect()
     }
 
     /// A line about each. Told edition 4, the writer gives edition 1 where no table is shorter.

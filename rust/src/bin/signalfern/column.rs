@@ -1,14 +1,14 @@
 //! The opened columns of the package: the one place where the tool uses them.
 
 use signalfern::{
-    Answer, Candidates, Column, Layer, Layered, LayeredAnswer, LayeredRefusal, PageAnswer, Refusal,
+    Answer, Candidates, Column, Layer, Layered, LayeredAnswer, LayeredRefusal, Refusal,
 };
 
 use crate::failure::Failure;
 use crate::load::Loaded;
 
-/// Ids that are asked for in one call.
-pub const PAGE: usize = 1000;
+/// Ids that are taken from a list before they are asked for.
+pub const PAGE: usize = 1 << 20;
 
 /// A column to be asked for many ids.
 pub struct Asked<'a>(Column<'a>);
@@ -27,12 +27,24 @@ impl<'a> Asked<'a> {
         self.0.look_up(id)
     }
 
-    /// Looks a page of ids up, of which there are at most [`PAGE`].
-    pub fn look_up_page(&self, ids: &[u32]) -> Result<Vec<PageAnswer>, Refusal> {
-        let (mut ordinals, mut values, mut kinds) = ([0; PAGE], [0; PAGE], [0; PAGE]);
-        let lists = (&mut ordinals, &mut values, &mut kinds);
-        let page = self.0.look_up_page(ids, lists.0, lists.1, lists.2)?;
-        Ok(page.iter().collect())
+    pub fn count(&self) -> u64 {
+        self.0.count()
+    }
+
+    pub fn column(&self) -> Column<'a> {
+        self.0
+    }
+
+    /// Looks a page of ids up, in any order.
+    pub fn look_up_page(&self, ids: &[u32], page: &mut Answers) -> Result<(), Refusal> {
+        page.resize(ids.len());
+        let Answers {
+            ordinals,
+            values,
+            kinds,
+        } = page;
+        let _ = self.0.look_up_page(ids, ordinals, values, kinds)?;
+        Ok(())
     }
 
     pub fn first_between(&self, low: i64, high: i64) -> Result<Option<u64>, Refusal> {
@@ -46,6 +58,22 @@ impl<'a> Asked<'a> {
     /// This column with a correction on top.
     pub fn under(&self, correction: &Self) -> Corrected<'a> {
         Corrected(Layered::new(self.0, correction.0))
+    }
+}
+
+/// What is answered to a page of ids: a place for each in three lists.
+#[derive(Default)]
+pub struct Answers {
+    pub ordinals: Vec<u64>,
+    pub values: Vec<i64>,
+    pub kinds: Vec<u8>,
+}
+
+impl Answers {
+    fn resize(&mut self, len: usize) {
+        self.ordinals.resize(len, 0);
+        self.values.resize(len, 0);
+        self.kinds.resize(len, 0);
     }
 }
 

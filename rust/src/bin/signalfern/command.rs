@@ -13,11 +13,75 @@ pub struct Command {
     /// Paragraphs; those that start with a space are shown as they are.
     pub text: &'static [&'static str],
     pub options: &'static [Choice],
+    /// What its first plain word may be, where that decides which options there are.
+    pub actions: &'static [Action],
+    /// What its objects hold with `--json`.
+    pub json: &'static [Field],
     /// What its plain words are, for completions.
     pub operands: Value,
     /// Whether a plain word may be a negative number.
     pub negative: bool,
     pub run: fn(Arguments) -> Result<(), Failure>,
+}
+
+impl Command {
+    /// What all of them start from.
+    pub const BLANK: Self = Self {
+        name: "",
+        words: "",
+        summary: "",
+        text: &[],
+        options: &[],
+        actions: &[],
+        json: &[],
+        operands: Value::File,
+        negative: false,
+        run: crate::help::run,
+    };
+}
+
+/// What a command with several parts can do: the word for it, and its options by their long names.
+pub struct Action {
+    pub name: &'static str,
+    pub options: &'static [&'static str],
+}
+
+/// A member of a JSON object: its name, its type, and what it is.
+pub struct Field {
+    pub name: &'static str,
+    pub kind: Kind,
+    pub about: &'static str,
+}
+
+/// The type of a member.
+#[derive(Clone, Copy, PartialEq, Eq)]
+pub enum Kind {
+    Text,
+    /// Below 2^53 whatever comes.
+    Number,
+    /// A string of digits.
+    Long,
+    Texts,
+    Objects,
+    Object,
+}
+
+impl Kind {
+    pub fn name(self) -> &'static str {
+        match self {
+            Self::Text => "string",
+            Self::Number => "number",
+            Self::Long => "string of digits",
+            Self::Texts => "list of strings",
+            Self::Objects => "list of objects",
+            Self::Object => "object",
+        }
+    }
+}
+
+/// A member that is told where there is one.
+pub const fn field(name: &'static str, kind: Kind, about: &'static str) -> Field {
+    Field { name, kind, about }
 }
 
 /// One option of a command.

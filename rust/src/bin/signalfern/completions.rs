@@ -32,28 +32,34 @@ fn pattern(choice: &Choice) -> String {
 
 fn bash_value(value: Value) -> String {
     match value {
-        Value::File => "COMPREPLY=($(compgen -f -- \"$word\"))".to_string(),
-        Value::Folder => "COMPREPLY=($(compgen -d -- \"$word\"))".to_string(),
+        Value::File => "_signalfern_files -f".to_string(),
+        Value::Folder => "_signalfern_files -d".to_string(),
         Value::Other => "COMPREPLY=()".to_string(),
-        Value::OneOf(words) => {
-            format!(
-                "COMPREPLY=($(compgen -W '{}' -- \"$word\"))",
-                words.join(" ")
-            )
-        }
+        Value::OneOf(words) => bash_words(&words.join(" ")),
     }
 }
 
+fn bash_words(words: &str) -> String {
+    format!("COMPREPLY=($(compgen -W '{words}' -- \"$word\"))")
+}
+
+/// Names may have spaces, so each is one line of what compgen gives; bash quotes them itself (`-o filenames`).
+const BASH_FILES: &str = r#"_signalfern_files() {
+    local name
+    COMPREPLY=()
+    while IFS= read -r name; do
+        COMPREPLY+=("$name")
+    done < <(compgen "$1" -- "$word")
+}
+"#;
+
 fn bash() -> String {
-    let mut out = "# bash completions for signalfern\n_signalfern() {\n".to_string();
+    let mut out = format!("# bash completions for signalfern\n{BASH_FILES}_signalfern() {{\n");
     out.push_str("    local word=\"${COMP_WORDS[COMP_CWORD]}\"\n");
     out.push_str("    local before=\"${COMP_WORDS[COMP_CWORD-1]}\"\n");
     out.push_str("    if [ \"$COMP_CWORD\" -eq 1 ]; then\n");
-    let _ = writeln!(
-        out,
-        "        COMPREPLY=($(compgen -W '{} --help --version' -- \"$word\"))",
-        names()
-    );
+    let words = bash_words(&format!("{} --help --version", names()));
+    let _ = writeln!(out, "        {words}");
     out.push_str("        return\n    fi\n    case \"${COMP_WORDS[1]}\" in\n");
     for command in COMMANDS {
         bash_command(&mut out, command);
@@ -63,25 +69,50 @@ fn bash() -> String {
 }
 
 fn bash_command(out: &mut String, command: &Command) {
-    let _ = writeln!(out, "    {})\n        case \"$before\" in", command.name);
+    let _ = writeln!(out, "    {})", command.name);
+    if !command.actions.is_empty() {
+        let words = bash_words(&action_names(command));
+        let _ = writeln!(
+            out,
+            "        if [ \"$COMP_CWORD\" -eq 2 ]; then {words}; return; fi"
+        );
+    }
+    out.push_str("        case \"$before\" in\n");
     let valued = (command.options.iter()).filter_map(|choice| Some((choice, choice.value?.1)));
     for (choice, value) in valued {
         let reply = bash_value(value);
         let _ = writeln!(out, "        {}) {reply}; return ;;", pattern(choice));
     }
-    let options: Vec<String> = (command.options.iter())
-        .map(|choice| format!("--{}", choice.long))
-        .collect();
-    let _ = writeln!(
-        out,
-        "        esac\n        case \"$word\" in\n        -*) COMPREPLY=($(compgen -W '{} --help' -- \"$word\")) ;;",
-        options.join(" ")
-    );
+    out.push_str("        esac\n        case \"$word\" in\n");
+    let options = |longs: Vec<&str>| {
+        let longs: Vec<String> = longs.iter().map(|long| format!("--{long}")).collect();
+        bash_words(&format!("{} --help", longs.join(" ")))
+    };
+    match command.actions.is_empty() {
+        true => {
+            let all = options(command.options.iter().map(|it| it.long).collect());
+            let _ = writeln!(out, "        -*) {all} ;;");
+        }
+        false => {
+            out.push_str("        -*) case \"${COMP_WORDS[2]}\" in\n");
+            for action in command.actions {
+                let its = options(action.options.to_vec());
+                let _ = writeln!(out, "            {}) {its} ;;", action.name);
+            }
+            out.push_str("            esac ;;\n");
+        }
+    }
     let _ = writeln!(
         out,
         "        *) {} ;;\n        esac ;;",
         bash_value(command.operands)
     );
+}
+
+/// What a command can do, as words.
+fn action_names(command: &Command) -> String {
+    let names: Vec<&str> = command.actions.iter().map(|action| action.name).collect();
+    names.join(" ")
 }
 
 /// Text between single quotes, for zsh and fish.
@@ -112,7 +143,11 @@ fn zsh() -> String {
     for command in COMMANDS {
         zsh_command(&mut out, command);
     }
-    out.push_str("    esac\n}\n_signalfern \"$@\"\n");
+    // Found by its first line in a folder of `fpath`, this file is the function's own body; sourced, it tells zsh of it.
+    out.push_str(
+        "    esac\n}\nif [ \"$funcstack[1]\" = _signalfern ]; then\n    _signalfern \"$@\"\nelse\n",
+    );
+    out.push_str("    compdef _signalfern signalfern\nfi\n");
     out
 }
 
@@ -133,12 +168,25 @@ fn zsh_command(out: &mut String, command: &Command) {
             None => writeln!(out, "            '--{long}[{help}]{value}' \\"),
         };
     }
+    if !command.actions.is_empty() {
+        let _ = writeln!(out, "            '1:action:({})' \\", action_names(command));
+    }
     let operands = zsh_value(command.operands);
     let _ = writeln!(out, "            '*:word:{operands}' ;;");
 }
 
+/// Whether the words before the cursor start with a command, and with an action of it. Some actions have the name of
+/// a command.
+const FISH_AT: &str = "function __signalfern_at
+    set -l words (commandline -opc)
+    test (count $words) -gt (count $argv); and test \"$words[2]\" = \"$argv[1]\"; or return 1
+    test (count $argv) -eq 1; or test \"$words[3]\" = \"$argv[2]\"
+end
+";
+
 fn fish() -> String {
-    let mut out = "# fish completions for signalfern\ncomplete -c signalfern -f\n".to_string();
+    let mut out =
+        format!("# fish completions for signalfern\n{FISH_AT}complete -c signalfern -f\n");
     for command in COMMANDS {
         let (name, summary) = (command.name, single(command.summary));
         let _ = writeln!(
@@ -153,24 +201,41 @@ fn fish() -> String {
 }
 
 fn fish_command(out: &mut String, command: &Command) {
-    let seen = format!("-n '__fish_seen_subcommand_from {}'", command.name);
-    for choice in command.options {
-        let short = choice
-            .short
-            .map_or(String::new(), |letter| format!(" -s {letter}"));
-        let value = match choice.value {
-            None => String::new(),
-            Some((_, Value::File)) => " -r -F".to_string(),
-            Some((_, value)) => format!(" -x{}", fish_words(value)),
-        };
-        let (long, help) = (choice.long, single(choice.help));
-        let _ = writeln!(
-            out,
-            "complete -c signalfern {seen}{short} -l {long}{value} -d '{help}'"
-        );
+    let name = command.name;
+    let part = |out: &mut String, at: &str, options: &mut dyn Iterator<Item = &Choice>| {
+        let seen = format!("-n '__signalfern_at {at}'");
+        options.for_each(|choice| fish_option(out, &seen, choice));
+        let operands = fish_words(command.operands);
+        let _ = writeln!(out, "complete -c signalfern {seen}{operands}");
+    };
+    if command.actions.is_empty() {
+        part(out, name, &mut command.options.iter());
+        return;
     }
-    let operands = fish_words(command.operands);
-    let _ = writeln!(out, "complete -c signalfern {seen}{operands}");
+    let actions = action_names(command);
+    let _ = writeln!(
+        out,
+        "complete -c signalfern -n '__signalfern_at {name}; and test (count (commandline -opc)) -eq 2' -a '{actions}'"
+    );
+    for action in command.actions {
+        let its = |choice: &&Choice| action.options.contains(&choice.long);
+        let at = format!("{name} {}", action.name);
+        part(out, &at, &mut command.options.iter().filter(its));
+    }
+}
+
+fn fish_option(out: &mut String, seen: &str, choice: &Choice) {
+    let short = (choice.short).map_or(String::new(), |letter| format!(" -s {letter}"));
+    let value = match choice.value {
+        None => String::new(),
+        Some((_, Value::File)) => " -r -F".to_string(),
+        Some((_, value)) => format!(" -x{}", fish_words(value)),
+    };
+    let (long, help) = (choice.long, single(choice.help));
+    let _ = writeln!(
+        out,
+        "complete -c signalfern {seen}{short} -l {long}{value} -d '{help}'"
+    );
 }
 
 fn fish_words(value: Value) -> String {

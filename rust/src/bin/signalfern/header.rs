@@ -134,7 +134,7 @@ pub fn number_bytes(number: u64) -> usize {
 
 /// The number at the front, in groups of seven bits, and its bytes; if it is whole, in its shortest
 /// form, and below 2^64.
-fn number(bytes: &[u8]) -> Option<(u64, usize)> {
+pub fn number(bytes: &[u8]) -> Option<(u64, usize)> {
     let mut number = 0;
     for (at, &byte) in bytes.iter().take(10).enumerate() {
         if at == 9 && byte != 1 {

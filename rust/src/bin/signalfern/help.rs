@@ -4,13 +4,14 @@ use std::fmt::Write;
 use std::os::unix::ffi::OsStrExt;
 
 use crate::arguments::Arguments;
-use crate::command::{Choice, Command};
+use crate::command::{Choice, Command, Field};
 use crate::completions;
 use crate::failure::Failure;
+use crate::json::Object;
 use crate::man;
 use crate::nearest::did_you_mean;
 use crate::output::print;
-use crate::table::{ABOUT, COMMANDS, INTRODUCTION, STANDARD, STATUS};
+use crate::table::{ABOUT, COMMANDS, DIGESTS, INTRODUCTION, JSON, OTHER_NAMES, STANDARD, STATUS};
 use crate::text::{quoted, wrapped};
 
 /// Columns of a line.
@@ -23,6 +24,18 @@ pub fn run(mut arguments: Arguments) -> Result<(), Failure> {
     let man = arguments.has("man");
     let command = arguments.next();
     arguments.finish()?;
+    if arguments.has("json") && shell.is_none() && !man {
+        let commands = match command {
+            Some(name) => std::slice::from_ref(find(&name)?),
+            None => COMMANDS,
+        };
+        return print(
+            &commands
+                .iter()
+                .map(|it| object(it).line())
+                .collect::<String>(),
+        );
+    }
     match (command, shell, man) {
         (None, None, false) => print(&all()),
         (None, None, true) => print(&man::page()),
@@ -44,7 +57,10 @@ pub fn find(name: &std::ffi::OsStr) -> Result<&'static Command, Failure> {
         return Ok(command);
     }
     let names: Vec<String> = COMMANDS.iter().map(|it| it.name.to_string()).collect();
-    let hint = did_you_mean(&name.to_string_lossy(), &names);
+    let hint = match OTHER_NAMES.iter().find(|(other, _)| name == *other) {
+        Some((_, meant)) => format!("; did you mean `{meant}`?"),
+        None => did_you_mean(&name.to_string_lossy(), &names),
+    };
     let name = quoted(name.as_bytes());
     Err(Failure::usage(
         format!("there is no command {name}{hint}"),
@@ -80,9 +96,45 @@ pub fn all() -> String {
         &mut out,
         &format!("Each command has its own --help. {STANDARD}"),
     );
-    out.push('\n');
-    paragraph(&mut out, STATUS);
+    for text in [DIGESTS, JSON, STATUS] {
+        out.push('\n');
+        paragraph(&mut out, text);
+    }
     out
+}
+
+/// A command as an object.
+fn object(command: &Command) -> Object {
+    let options = command.options.iter().map(|choice| {
+        let object = Object::new().text("long", choice.long);
+        let object = match choice.short {
+            Some(letter) => object.text("short", &letter.to_string()),
+            None => object,
+        };
+        let object = match choice.value {
+            Some((name, _)) => object.text("value", name),
+            None => object,
+        };
+        object.text("help", choice.help)
+    });
+    let members = command.json.iter().map(|field| {
+        let object = Object::new().text("member", field.name);
+        (object.text("type", field.kind.name())).text("about", field.about)
+    });
+    let actions: Vec<String> = command
+        .actions
+        .iter()
+        .map(|it| it.name.to_string())
+        .collect();
+    let object = Object::new()
+        .text("command", command.name)
+        .text("words", command.words);
+    let object = object
+        .text("summary", command.summary)
+        .texts("actions", &actions);
+    object
+        .objects("options", options)
+        .objects("members", members)
 }
 
 /// A command as it is typed, broken between its words.
@@ -120,14 +172,26 @@ pub fn of(command: &Command) -> String {
         out.push('\n');
     }
     for choice in command.options {
-        option(&mut out, choice);
+        row(&mut out, &spelled(choice), choice.help);
+    }
+    if !command.json.is_empty() {
+        out.push_str("\nMembers of its JSON objects, where they apply:\n");
+    }
+    for field in command.json {
+        row(&mut out, field.name, &about(field));
     }
     out
 }
 
-fn option(out: &mut String, choice: &Choice) {
-    let name = format!("  {}", spelled(choice));
-    let lines = wrapped(choice.help, WIDTH - INDENT);
+/// What a member is, with its type.
+pub fn about(field: &Field) -> String {
+    format!("{} ({})", field.about, field.kind.name())
+}
+
+/// A name and what is said of it.
+fn row(out: &mut String, name: &str, text: &str) {
+    let name = format!("  {name}");
+    let lines = wrapped(text, WIDTH - INDENT);
     let mut first = format!("{name:<INDENT$}");
     if name.len() + 2 > INDENT {
         let _ = writeln!(out, "{name}");
@@ -161,6 +225,10 @@ mod tests {
             let text = of(command);
             for choice in command.options {
                 assert!(text.contains(&spelled(choice)), "{text}");
+            }
+            for action in command.actions {
+                let is_one = |long: &&str| command.options.iter().any(|it| it.long == *long);
+                assert!(action.options.iter().all(is_one), "{}", action.name);
             }
             assert!(all().contains(command.summary));
             texts.push(text);

@@ -7,6 +7,7 @@ use std::os::unix::fs::MetadataExt;
 use std::path::{Path, PathBuf};
 
 use crate::failure::Failure;
+use crate::system::Stream;
 use crate::text::{is_standard, named};
 
 /// A file opened for reading.
@@ -20,6 +21,9 @@ impl Input {
     /// Opens a file, or standard input for `-`. Nothing is read yet.
     pub fn open(path: &Path) -> Result<Self, Failure> {
         let open = || -> io::Result<(File, Metadata)> {
+            if is_standard_input(path) {
+                Stream::Input.is_there()?;
+            }
             let file = if is_standard(path) {
                 File::from(io::stdin().as_fd().try_clone_to_owned()?)
             } else {
@@ -43,8 +47,17 @@ impl Input {
 
     /// Whether it is standard input, by whatever name.
     pub fn is_standard(&self) -> bool {
-        let names = ["/dev/stdin", "/dev/fd/0", "/proc/self/fd/0"];
-        is_standard(&self.path) || names.iter().any(|name| self.path == Path::new(name))
+        is_standard_input(&self.path)
+    }
+
+    /// Whether it is a file on a disk, of which reading never waits.
+    pub fn is_plain_file(&self) -> bool {
+        self.about.is_file()
+    }
+
+    /// Goes back to the first byte.
+    pub fn rewind(&mut self) -> Result<(), Failure> {
+        (self.file.rewind()).map_err(|error| Failure::file("read", &self.path, &error))
     }
 
     /// The bytes that are left, where the system tells: for a file on a disk.
@@ -79,6 +92,12 @@ impl Input {
             }
         }
     }
+}
+
+/// Whether a path is standard input, by whatever name.
+fn is_standard_input(path: &Path) -> bool {
+    let names = ["/dev/stdin", "/dev/fd/0", "/proc/self/fd/0"];
+    is_standard(path) || names.iter().any(|name| path == Path::new(name))
 }
 
 pub fn same_file(one: &Metadata, other: &Metadata) -> bool {

@@ -1,14 +1,18 @@
 //! A text taken line by line, in little memory.
 
-use crate::failure::Failure;
+use crate::failure::{complain, Failure};
 use crate::input::Input;
 use crate::memory;
 use crate::progress::{Progress, Unit};
+use crate::sha256::Hasher;
+use crate::witness::Witnesses;
 
 /// The longest line, in bytes.
 pub const LONGEST: usize = 1 << 16;
 /// Bytes that are read at once: more than one line always fits.
-const BUFFER: usize = 1 << 17;
+const BUFFER: usize = 1 << 18;
+/// What some programs put before UTF-8 text.
+const BYTE_ORDER_MARK: &[u8] = b"\xEF\xBB\xBF";
 
 /// First bytes that are kept.
 const HEAD: usize = 128;
@@ -25,6 +29,8 @@ pub struct Lines {
     done: u64,
     /// The first bytes, which tell files of other kinds.
     head: Vec<u8>,
+    /// Whether a byte order mark was passed over.
+    marked: bool,
     progress: Progress,
 }
 
@@ -39,6 +45,7 @@ impl Lines {
     pub fn of(mut input: Input, doing: &str) -> Result<Self, Failure> {
         let total = input.left();
         let label = format!("{doing} {}", input.name());
+        verified(&mut input)?;
         Ok(Self {
             progress: Progress::new(label, Unit::Bytes, total),
             buffer: memory::zeros(BUFFER as u64, "a buffer")?,
@@ -48,6 +55,7 @@ impl Lines {
             at_end: false,
             done: 0,
             head: Vec::new(),
+            marked: false,
         })
     }
 
@@ -59,10 +67,6 @@ impl Lines {
         }
     }
 
-    pub fn input(&self) -> &Input {
-        &self.input
-    }
-
     /// The first bytes of the input, after the first line was asked for.
     pub fn head(&self) -> &[u8] {
         &self.head
@@ -71,6 +75,11 @@ impl Lines {
     /// Whether the input had no byte at all. To be asked at the end.
     pub fn was_empty(&self) -> bool {
         self.done == 0
+    }
+
+    /// Whether the next line is at hand, so that it is not waited for.
+    pub fn has_line(&self) -> bool {
+        self.at_end || self.at_hand().contains(&b'\n')
     }
 
     /// What is at hand: whole lines, the last maybe not. `pass` tells how much of it was used.
@@ -110,6 +119,15 @@ impl Lines {
         }
     }
 
+    /// Passes over a byte order mark before the first line, as soon as it is there whole.
+    fn pass_mark(&mut self) {
+        let is_first = self.done == self.end as u64 && !self.marked;
+        if is_first && self.buffer[..self.end].starts_with(BYTE_ORDER_MARK) {
+            self.marked = true;
+            self.start = BYTE_ORDER_MARK.len();
+        }
+    }
+
     /// Reads on, behind what is at hand.
     fn more(&mut self) -> Result<(), Failure> {
         self.buffer.copy_within(self.start..self.end, 0);
@@ -123,7 +141,35 @@ impl Lines {
         self.end += len;
         self.done += len as u64;
         self.at_end = len == 0;
+        self.pass_mark();
         self.progress.tell(self.done);
         Ok(())
     }
+}
+
+/// A text beside which a sidecar stands is read once before, and refused if it is another.
+fn verified(input: &mut Input) -> Result<(), Failure> {
+    let witnesses = Witnesses::of(&input.path, None)?;
+    if witnesses.is_empty() {
+        return Ok(());
+    }
+    if !input.is_plain_file() {
+        let name = input.name();
+        complain(format!(
+            "{name} cannot be read twice: its digest is not compared"
+        ));
+        return Ok(());
+    }
+    let mut hasher = Hasher::new();
+    let mut buffer = memory::zeros(BUFFER as u64, "a buffer")?;
+    loop {
+        let len = input.read(&mut buffer)?;
+        if len == 0 {
+            break;
+        }
+        hasher.take(&buffer[..len]);
+    }
+    input.rewind()?;
+    let confirmed = witnesses.confirm(hasher.digest(), "text");
+    confirmed.map_err(|differs| differs.failure(&input.name()))
 }

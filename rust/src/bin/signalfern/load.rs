@@ -1,5 +1,6 @@
 //! Columns read from files: the header first, and the rest only where it can be a column.
 
+use std::cell::OnceCell;
 use std::path::Path;
 
 use signalfern::Refusal;
@@ -10,6 +11,9 @@ use crate::header::{Header, LONGEST};
 use crate::input::Input;
 use crate::memory;
 use crate::progress::{Progress, Unit};
+use crate::sha256::{self, Digest};
+use crate::text::typed;
+use crate::witness::Witnesses;
 
 /// Bytes read between two looks at the clock: from a file, and from what may be slow.
 const PIECE: u64 = 1 << 22;
@@ -23,6 +27,7 @@ pub struct Loaded {
     pub len: Option<u64>,
     /// The refusal, where the first bytes or the length were enough for it.
     refusal: Option<Refusal>,
+    digest: OnceCell<Digest>,
     input: Input,
 }
 
@@ -34,16 +39,22 @@ impl Loaded {
         Ok(loaded)
     }
 
-    /// Opens a file that is to be asked, and checks it; unchecked, it says so.
-    pub fn to_ask(path: &Path, unchecked: bool) -> Result<Self, Failure> {
+    /// Opens a file that is to be asked: checked, and with the digest that it must have.
+    pub fn sound(path: &Path, given: Option<Digest>) -> Result<Self, Failure> {
         let loaded = Self::open(path)?;
-        if unchecked {
-            loaded.opened()?;
-            let warning = "is not checked: if it is damaged, answers may be wrong";
-            complain(format!("{} {warning}", loaded.name));
-        } else {
-            loaded.checked()?;
-        }
+        loaded.checked(given)?;
+        Ok(loaded)
+    }
+
+    /// The same without the check, and says so.
+    pub fn unchecked(path: &Path, given: Option<Digest>) -> Result<Self, Failure> {
+        let loaded = Self::open(path)?;
+        loaded
+            .refusal
+            .map_or(Ok(()), |it| Err(loaded.refused(it)))?;
+        loaded.confirmed(given, "file")?;
+        let warning = "is not checked: if it is damaged, answers may be wrong";
+        complain(format!("{} {warning}", loaded.name));
         Ok(loaded)
     }
 
@@ -55,6 +66,7 @@ impl Loaded {
             bytes: Vec::new(),
             len: input.left(),
             refusal: None,
+            digest: OnceCell::new(),
             input,
         })
     }
@@ -92,20 +104,40 @@ impl Loaded {
         }
     }
 
-    /// The count of pairs of a column that the check accepts; otherwise where to learn more.
-    pub fn checked(&self) -> Result<u64, Failure> {
-        self.check().map_err(|refusal| self.refused(refusal))
+    /// The count of pairs of a column that the check accepts and that has the digest it must have.
+    pub fn checked(&self, given: Option<Digest>) -> Result<u64, Failure> {
+        let count = self.check().map_err(|refusal| self.refused(refusal))?;
+        self.confirmed(given, "column")?;
+        Ok(count)
     }
 
-    /// As `checked`, by the header and the length alone.
-    pub fn opened(&self) -> Result<(), Failure> {
-        self.refusal.map_or(Ok(()), |it| Err(self.refused(it)))
+    /// Who confirmed the digest of a file that was read whole. Only those who tell one are asked.
+    pub fn confirmed(
+        &self,
+        given: Option<Digest>,
+        what: &'static str,
+    ) -> Result<Witnesses, Failure> {
+        let witnesses = Witnesses::of(self.path(), given)?;
+        if !witnesses.is_empty() {
+            let confirmed = witnesses.confirm(self.digest(), what);
+            confirmed.map_err(|differs| differs.failure(&self.name))?;
+        }
+        Ok(witnesses)
+    }
+
+    /// The digest of the bytes, which is taken once.
+    pub fn digest(&self) -> Digest {
+        *self.digest.get_or_init(|| sha256::digest(&self.bytes))
+    }
+
+    pub fn path(&self) -> &Path {
+        &self.input.path
     }
 
     fn refused(&self, refusal: Refusal) -> Failure {
         let file = match self.input.is_standard() {
-            true => "-",
-            false => &self.name,
+            true => "-".to_string(),
+            false => typed(self.path()),
         };
         let hint = format!("{refusal}\nTry `signalfern check {file}`: it tells what is wrong.");
         Failure::refused_as(&self.name, (refusal.number(), refusal.name()), hint)

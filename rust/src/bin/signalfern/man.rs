@@ -3,8 +3,8 @@
 use std::fmt::Write;
 
 use crate::command::Command;
-use crate::help::spelled;
-use crate::table::{ABOUT, COMMANDS, INTRODUCTION, SOUND, STANDARD, STATUS};
+use crate::help::{self, spelled};
+use crate::table::{ABOUT, COMMANDS, DIGESTS, INTRODUCTION, JSON, SOUND, STANDARD, STATUS};
 
 // Writing to a string cannot fail, so the results below are dropped.
 
@@ -24,6 +24,11 @@ pub fn page() -> String {
         about(&mut out, command);
     }
     let _ = writeln!(out, ".SH SOUND, AND WHAT IT DOES NOT MEAN\n{}", roff(SOUND));
+    let _ = writeln!(out, ".SH DIGESTS\n{}", roff(DIGESTS));
+    let _ = writeln!(out, ".SH JSON\n{}", roff(JSON));
+    for command in COMMANDS {
+        members(&mut out, command);
+    }
     let status = STATUS.trim_start_matches("Exit status: ");
     let _ = writeln!(out, ".SH EXIT STATUS\n{}", roff(status));
     out
@@ -48,6 +53,15 @@ fn about(out: &mut String, command: &Command) {
     for choice in command.options {
         let (name, help) = (roff(&spelled(choice)), roff(choice.help));
         let _ = writeln!(out, ".TP\n.B {name}\n{help}");
+    }
+}
+
+/// The members of a command's objects.
+fn members(out: &mut String, command: &Command) {
+    let _ = writeln!(out, ".SS Objects of {}", roff(command.name));
+    for field in command.json {
+        let (name, about) = (roff(field.name), roff(&help::about(field)));
+        let _ = writeln!(out, ".TP\n.B {name}\n{about}");
     }
 }
 

@@ -16,7 +16,7 @@ pub fn run(mut arguments: Arguments) -> Result<(), Failure> {
     let count = arguments.number("count", "count of ids")?;
     let path = arguments.file("column")?;
     let (word, first) = arguments.last_id()?;
-    let loaded = Loaded::to_ask(&path, false)?;
+    let loaded = Loaded::sound(&path, arguments.digest("digest")?)?;
     let asked = Asked::of(&loaded)?;
     let line = if arguments.has("json") { json } else { text };
     let mut refused = None;
@@ -68,8 +68,8 @@ fn json(target: u32, found: Option<Candidate>) -> String {
     let object = Object::new().number("target", target);
     match found {
         Some(it) => (object.text("answer", "found").number("id", it.id))
-            .number("value", it.value)
-            .number("ordinal", it.ordinal),
+            .long("value", it.value)
+            .long("ordinal", it.ordinal),
         None => object.text("answer", "none"),
     }
     .line()

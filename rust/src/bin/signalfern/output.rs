@@ -7,9 +7,13 @@ use std::path::{Path, PathBuf};
 
 use crate::failure::Failure;
 use crate::input::{same_file, Input};
+use crate::replaced::Replaces;
+use crate::system::{Stream, NO_FOLDER};
 use crate::temporary::Temporary;
 use crate::text::{is_standard, named};
 
+/// Bytes gathered before they are handed on.
+const PIECE: usize = 1 << 16;
 /// Links followed to find where an output leads.
 const MOST_LINKS: usize = 40;
 
@@ -30,8 +34,14 @@ pub struct Replacement {
 }
 
 impl Output {
-    /// Tests a path and prepares to write there. `force`: replace a file that is not writable.
-    pub fn open(path: &Path, force: bool, inputs: &[&Input]) -> Result<Self, Failure> {
+    /// Tests a path and prepares to write there. `force`: replace a file whatever it is, even if it is not
+    /// writable.
+    pub fn open(
+        path: &Path,
+        force: bool,
+        replaces: Replaces,
+        inputs: &[&Input],
+    ) -> Result<Self, Failure> {
         if is_standard(path) {
             return Ok(Self::Standard);
         }
@@ -51,18 +61,13 @@ impl Output {
             if !before.is_file() || is_descriptor(path) {
                 return Ok(Self::Stream(path.to_path_buf()));
             }
-            if !force && !is_writable(&target, before) {
-                return Err(Failure::Trouble(format!(
-                    "cannot write {}: it is there and not writable; --force replaces it",
-                    named(path)
-                )));
+            if !force {
+                may_be_replaced(path, &target, before, replaces)?;
             }
         }
-        let folder = match target.parent() {
-            Some(folder) if !folder.as_os_str().is_empty() => folder,
-            _ => Path::new("."),
-        };
-        let temporary = Temporary::in_folder(folder).map_err(trouble)?;
+        let folder = folder_of(&target);
+        let temporary = Temporary::in_folder(folder);
+        let temporary = temporary.map_err(|error| no_file_in(path, folder, &error))?;
         let named = path.to_path_buf();
         Ok(Self::File(Box::new(Replacement {
             named,
@@ -77,12 +82,33 @@ impl Output {
         matches!(self, Self::Standard)
     }
 
+    /// Whether this is a file that takes its name when it is whole.
+    pub fn is_file(&self) -> bool {
+        matches!(self, Self::File(_))
+    }
+
     /// Whether a file would be replaced.
     pub fn replaces(&self) -> bool {
         matches!(self, Self::File(replacement) if replacement.before.is_some())
     }
 
-    /// Lets `fill` write the whole of it.
+    /// As `fill`, of what is worth nothing unless it is whole: a reader that goes away before the end is trouble.
+    pub fn fill_whole(
+        self,
+        fill: impl FnOnce(&mut dyn Write) -> io::Result<()>,
+    ) -> Result<(), Failure> {
+        match self.fill(fill) {
+            Err(Failure::OutputClosed) => {
+                let error = io::Error::from(io::ErrorKind::BrokenPipe);
+                Err(Failure::Trouble(format!(
+                    "cannot write to standard output: {error}: its reader is gone"
+                )))
+            }
+            result => result,
+        }
+    }
+
+    /// Lets `fill` write all of it.
     pub fn fill(self, fill: impl FnOnce(&mut dyn Write) -> io::Result<()>) -> Result<(), Failure> {
         match self {
             Self::Standard => print_with(fill),
@@ -107,8 +133,48 @@ impl Replacement {
 }
 
 fn through(out: impl Write, fill: impl FnOnce(&mut dyn Write) -> io::Result<()>) -> io::Result<()> {
-    let mut out = BufWriter::new(out);
+    let mut out = BufWriter::with_capacity(PIECE, out);
     fill(&mut out).and_then(|()| out.flush())
+}
+
+/// Refuses to replace a file that is not writable, or not of the kind that is replaced.
+fn may_be_replaced(
+    path: &Path,
+    target: &Path,
+    before: &Metadata,
+    replaces: Replaces,
+) -> Result<(), Failure> {
+    let why_not = match is_writable(target, before) {
+        false => Some("not writable"),
+        true => replaces.why_not(target, before.len()),
+    };
+    match why_not {
+        None => Ok(()),
+        Some(why) => Err(Failure::Trouble(format!(
+            "cannot write {}: it is there and {why}; --force replaces it",
+            named(path)
+        ))),
+    }
+}
+
+/// The folder that a file stands in.
+fn folder_of(path: &Path) -> &Path {
+    match path.parent() {
+        Some(folder) if !folder.as_os_str().is_empty() => folder,
+        _ => Path::new("."),
+    }
+}
+
+/// Why no file can be made in a folder, with its name.
+fn no_file_in(path: &Path, folder: &Path, error: &io::Error) -> Failure {
+    let (path, name) = (named(path), named(folder));
+    Failure::Trouble(match fs::metadata(folder) {
+        Err(error) if error.kind() == io::ErrorKind::NotFound => {
+            format!("cannot write {path}: there is no folder {name}")
+        }
+        Ok(about) if !about.is_dir() => format!("cannot write {path}: {name} is no folder"),
+        _ => format!("cannot write {path}: no file can be made in the folder {name}: {error}"),
+    })
 }
 
 /// What a path leads to by links, and what is there. No folder, and a name of a file.
@@ -124,6 +190,8 @@ fn target_of(path: &Path) -> io::Result<(PathBuf, Option<Metadata>)> {
                 None => Err(error),
             }
         }
+        // A file's name where a folder's should stand: said when the file is to be made.
+        Err(error) if error.raw_os_error() == Some(NO_FOLDER) => Ok((path.to_path_buf(), None)),
         Err(error) => Err(error),
     }
 }
@@ -140,10 +208,15 @@ fn end_of_links(path: &Path) -> PathBuf {
     path
 }
 
+/// Standard output as a file. (std's own would take what cannot be written for written.)
+fn standard_output() -> io::Result<File> {
+    Stream::Output.is_there()?;
+    Ok(File::from(io::stdout().as_fd().try_clone_to_owned()?))
+}
+
 /// Whether standard output goes there already, as with `/dev/stdout`.
 fn is_our_output(about: &Metadata) -> bool {
-    let ours = io::stdout().as_fd().try_clone_to_owned();
-    let ours = ours.and_then(|owned| File::from(owned).metadata());
+    let ours = standard_output().and_then(|file| file.metadata());
     ours.is_ok_and(|ours| same_file(&ours, about))
 }
 
@@ -166,5 +239,6 @@ pub fn print(text: &str) -> Result<(), Failure> {
 
 /// Lets `fill` write to standard output, in large pieces.
 pub fn print_with(fill: impl FnOnce(&mut dyn Write) -> io::Result<()>) -> Result<(), Failure> {
-    through(io::stdout().lock(), fill).map_err(|error| Failure::output(&error))
+    let result = standard_output().and_then(|file| through(file, fill));
+    result.map_err(|error| Failure::output(&error))
 }

@@ -1,15 +1,16 @@
-//! Lists of pairs as text: a line `ID VALUE` for each.
+//! Lists of pairs as text: a line `ID VALUE` for each, or in another form.
 
 use std::collections::TryReserveError;
 
 use signalfern::{Refusal, MAX_ID};
 
 use crate::causes;
-use crate::failure::{Failure, TEXT};
+use crate::failure::Failure;
+use crate::forms::{Form, Layout};
 use crate::input::Input;
-use crate::lines::{Line, Lines, LONGEST};
+use crate::lines::{Line, Lines};
 use crate::memory;
-use crate::text::quoted;
+use crate::words::{plain_line, Wrong};
 
 /// The pairs of a text, and which of its lines held none.
 #[derive(Debug, Default)]
@@ -21,27 +22,25 @@ pub struct Pairs {
     pub was_empty: bool,
 }
 
-/// A word that is not what should stand there.
-#[derive(Debug, PartialEq, Eq)]
-pub enum Wrong {
-    /// A whole number above all ids.
-    TooGreat(String),
-    Text(String),
-}
-
-/// The numbers of the lines of a text that were passed over, ascending.
+/// Which lines of a text hold its pairs or ids.
 #[derive(Debug, Default)]
-pub struct PassedOver(Vec<usize>);
+pub struct PassedOver {
+    /// The numbers of the lines that were passed over, ascending.
+    lines: Vec<usize>,
+    /// Where each stood in the text, if they were sorted or some left out.
+    order: Vec<u32>,
+}
 
 impl PassedOver {
     pub fn push(&mut self, number: usize) -> Result<(), TryReserveError> {
-        memory::push(&mut self.0, number)
+        memory::push(&mut self.lines, number)
     }
 
     /// The number of the line that held what has this index.
-    fn line_of(&self, index: usize) -> usize {
+    pub fn line_of(&self, index: usize) -> usize {
+        let index = self.order.get(index).map_or(index, |&at| at as usize);
         let mut line = index + 1;
-        for &passed in &self.0 {
+        for &passed in &self.lines {
             if passed > line {
                 break;
             }
@@ -61,7 +60,7 @@ impl PassedOver {
                 let hint = if id == before {
                     "an id may stand once"
                 } else {
-                    "sort the lines by id: sort -n"
+                    "sort the lines by id: --sort, or sort -n"
                 };
                 let sentence = format!("id {id} is not above id {before} of line {line}; {hint}");
                 Failure::refused_as(place(index), code, sentence)
@@ -76,35 +75,167 @@ impl PassedOver {
     }
 }
 
+/// What to do where an id stands several times.
+#[derive(Clone, Copy, Debug, PartialEq, Eq)]
+pub enum Duplicates {
+    First,
+    Last,
+    Refuse,
+}
+
+/// A line that cannot be taken.
+pub struct Bad {
+    pub line: usize,
+    pub refusal: (u64, &'static str),
+    pub why: String,
+}
+
 impl Pairs {
-    /// Reads all lines.
-    pub fn read(input: Input) -> Result<Self, Failure> {
-        let mut pairs = Self::default();
+    /// Reads all lines, up to the first bad one.
+    pub fn read(input: Input, layout: &mut Layout) -> Result<Self, Failure> {
+        let name = input.name();
+        let (pairs, bad) = Self::read_on(input, layout, 1)?;
+        match bad.into_iter().next() {
+            None => Ok(pairs),
+            Some(Bad { line, refusal, why }) => Err(Failure::refused_as(
+                format!("{name}: line {line}"),
+                refusal,
+                why,
+            )),
+        }
+    }
+
+    /// Reads all lines, until so many of them were bad. Those are told.
+    pub fn read_on(
+        input: Input,
+        layout: &mut Layout,
+        most: usize,
+    ) -> Result<(Self, Vec<Bad>), Failure> {
+        let (mut pairs, mut bad) = (Self::default(), Vec::new());
         let mut lines = Lines::of(input, "reading")?;
-        let name = lines.input().name();
         let mut number = 0;
-        loop {
-            let (used, count) = pairs.take_plain(lines.at_hand()).map_err(no_room)?;
-            lines.pass(used);
-            number += count + 1;
-            let parsed = match lines.next()? {
+        while bad.len() < most {
+            if layout.form == Form::Lines {
+                let (used, count) = pairs.take_plain(lines.at_hand()).map_err(no_room)?;
+                lines.pass(used);
+                number += count;
+            }
+            number += 1;
+            let (parsed, is_end) = match lines.next()? {
                 None => break,
-                Some(Line::TooLong) => Err((Vec::new(), Wrong::too_long())),
-                Some(Line::Bytes(line)) => parse_line(line).map_err(|wrong| (line.to_vec(), wrong)),
+                Some(Line::TooLong) => (Err((Vec::new(), Wrong::too_long())), true),
+                Some(Line::Bytes(line)) => {
+                    let parsed = layout.pair(line);
+                    (parsed.map_err(|wrong| (line.to_vec(), wrong)), false)
+                }
             };
             match parsed {
                 Ok(Some((id, value))) => pairs.push(id, value).map_err(no_room)?,
                 Ok(None) => pairs.passed_over.push(number).map_err(no_room)?,
                 Err((line, wrong)) => {
+                    pairs.passed_over.push(number).map_err(no_room)?;
                     let before = pairs.ids.len();
                     let (refusal, why) = causes::explain(lines.head(), &line, before, wrong);
-                    let place = format!("{name}: line {number}");
-                    return Err(Failure::refused_as(place, refusal, why));
+                    bad.push(Bad {
+                        line: number,
+                        refusal,
+                        why,
+                    });
+                    // What follows such a line cannot be told apart from it.
+                    if is_end || layout.is_lost() {
+                        break;
+                    }
                 }
             }
         }
         pairs.was_empty = lines.was_empty();
-        Ok(pairs)
+        Ok((pairs, bad))
+    }
+
+    /// Sorts the pairs by id; those with one id stay in their order.
+    pub fn sort(&mut self) -> Result<(), Failure> {
+        if self.ids.is_sorted() {
+            return Ok(());
+        }
+        let mut order = self.order()?;
+        order.sort_unstable_by_key(|&at| (self.ids[at as usize], at));
+        self.take_order(order)
+    }
+
+    /// Leaves out all but one pair of each id among neighbours; gives how many.
+    pub fn leave_out(&mut self, duplicates: Duplicates) -> Result<u64, Failure> {
+        if duplicates == Duplicates::Refuse || self.ids.windows(2).all(|pair| pair[0] != pair[1]) {
+            return Ok(0);
+        }
+        let order = self.order()?;
+        let same = |at: usize, other: Option<usize>| {
+            other.and_then(|other| self.ids.get(other)) == Some(&self.ids[at])
+        };
+        let is_kept = |&at: &u32| {
+            let at = at as usize;
+            match duplicates {
+                Duplicates::Last => !same(at, Some(at + 1)),
+                _ => !same(at, at.checked_sub(1)),
+            }
+        };
+        let before = self.ids.len();
+        let kept: Vec<u32> = order.into_iter().filter(is_kept).collect();
+        self.take_order(kept)?;
+        Ok((before - self.ids.len()) as u64)
+    }
+
+    /// Each index, ascending.
+    fn order(&self) -> Result<Vec<u32>, Failure> {
+        let Ok(count) = u32::try_from(self.ids.len()) else {
+            return Err(Failure::Trouble(
+                "more than 4294967295 pairs cannot be sorted".to_string(),
+            ));
+        };
+        let mut order = Vec::new();
+        memory::reserve(&mut order, count.into(), "their order")?;
+        order.extend(0..count);
+        Ok(order)
+    }
+
+    /// The pairs in this order, which may leave some out.
+    fn take_order(&mut self, order: Vec<u32>) -> Result<(), Failure> {
+        let count = order.len() as u64;
+        let (mut ids, mut values) = (Vec::new(), Vec::new());
+        memory::reserve(&mut ids, count, "the sorted ids")?;
+        memory::reserve(&mut values, count, "the sorted values")?;
+        ids.extend(order.iter().map(|&at| self.ids[at as usize]));
+        values.extend(order.iter().map(|&at| self.values[at as usize]));
+        (self.ids, self.values) = (ids, values);
+        let before = &self.passed_over.order;
+        let order = order.into_iter();
+        self.passed_over.order = match before.is_empty() {
+            true => order.collect(),
+            false => order.map(|at| before[at as usize]).collect(),
+        };
+        Ok(())
+    }
+
+    /// The lines whose ids no writer takes, up to so many: out of order, twice, or too great.
+    pub fn bad_ids(&self, most: usize) -> Vec<Bad> {
+        let indexes = 0..self.ids.len();
+        let code = |refusal: Refusal| (refusal.number(), refusal.name());
+        let wrong = indexes.filter_map(|index| {
+            let (id, line) = (self.ids[index], self.passed_over.line_of(index));
+            if id > MAX_ID {
+                let why = format!("id {id} is above the greatest allowed, {MAX_ID}");
+                let refusal = code(Refusal::Range { index });
+                return Some(Bad { line, refusal, why });
+            }
+            let before = *self.ids.get(index.checked_sub(1)?)?;
+            if before < id {
+                return None;
+            }
+            let line_before = self.passed_over.line_of(index - 1);
+            let why = format!("id {id} is not above id {before} of line {line_before}");
+            let refusal = code(Refusal::Order { index });
+            Some(Bad { line, refusal, why })
+        });
+        wrong.take(most).collect()
     }
 
     fn push(&mut self, id: u32, value: i64) -> Result<(), TryReserveError> {
@@ -129,167 +260,16 @@ pub fn no_room(_: TryReserveError) -> Failure {
     Failure::Trouble("not enough memory for the list".to_string())
 }
 
-/// A line of digits, a space or tab, maybe a minus sign, digits, maybe a return, and a line feed: id,
-/// value, and bytes. Numbers of more digits than surely fit are left to the general way.
-fn plain_line(text: &[u8]) -> Option<(u32, i64, usize)> {
-    let (id, mut len) = digits(text, 9)?;
-    if !matches!(text.get(len)?, b' ' | b'\t') {
-        return None;
-    }
-    len += 1;
-    let is_negative = *text.get(len)? == b'-';
-    len += usize::from(is_negative);
-    let (value, digits) = digits(&text[len..], 18)?;
-    len += digits;
-    len += usize::from(text.get(len) == Some(&b'\r'));
-    let value = if is_negative { -value } else { value };
-    (text.get(len) == Some(&b'\n')).then_some((id as u32, value, len + 1))
-}
-
-/// The number at the front, and how many digits it has: at least one, at most `most`.
-fn digits(text: &[u8], most: usize) -> Option<(i64, usize)> {
-    let mut number = 0;
-    for (len, byte) in text.iter().enumerate() {
-        if !byte.is_ascii_digit() {
-            return (len > 0).then_some((number, len));
-        }
-        if len == most {
-            return None;
-        }
-        number = 10 * number + i64::from(byte - b'0');
-    }
-    None
-}
-
-/// The pair of a line, or none if it is empty or a remark.
-fn parse_line(line: &[u8]) -> Result<Option<(u32, i64)>, Wrong> {
-    let mut words = line
-        .split(u8::is_ascii_whitespace)
-        .filter(|word| !word.is_empty());
-    let Some(id) = words.next().filter(|word| !word.starts_with(b"#")) else {
-        return Ok(None);
-    };
-    let Some(value) = words.next() else {
-        let id = quoted(id);
-        return Err(Wrong::Text(format!(
-            "{id} has no value: a line is `ID VALUE`"
-        )));
-    };
-    if let Some(more) = words.next() {
-        let more = quoted(more);
-        return Err(Wrong::Text(format!(
-            "{more} is one word too many: a line is `ID VALUE`"
-        )));
-    }
-    Ok(Some((parse_id(id)?, parse_value(value)?)))
-}
-
-fn parse<T: std::str::FromStr>(word: &[u8]) -> Option<T> {
-    std::str::from_utf8(word).ok()?.parse().ok()
-}
-
-/// An id as it stands in a text. One above the limit but within 32 bits is left to the library.
-pub fn parse_id(word: &[u8]) -> Result<u32, Wrong> {
-    parse(word).ok_or_else(|| {
-        let quoted = quoted(word);
-        if word.iter().all(u8::is_ascii_digit) && !word.is_empty() {
-            return Wrong::TooGreat(format!(
-                "{quoted} is no id: it is above the greatest allowed, {MAX_ID}"
-            ));
-        }
-        Wrong::Text(format!(
-            "{quoted} is no id: a whole number from 0 to {MAX_ID}"
-        ))
-    })
-}
-
-/// An id that is asked for. A number of more than 32 bits is above the limit as the greatest of them is.
-pub fn parse_asked(word: &[u8]) -> Result<u32, Wrong> {
-    match parse_id(word) {
-        Err(Wrong::TooGreat(_)) => Ok(u32::MAX),
-        parsed => parsed,
-    }
-}
-
-/// A value as it stands in a text.
-pub fn parse_value(word: &[u8]) -> Result<i64, Wrong> {
-    parse(word).ok_or_else(|| {
-        let (word, least, most) = (quoted(word), i64::MIN, i64::MAX);
-        Wrong::Text(format!(
-            "{word} is no value: a whole number from {least} to {most}"
-        ))
-    })
-}
-
-impl Wrong {
-    pub fn too_long() -> Self {
-        Self::Text(format!("it has more than {LONGEST} bytes"))
-    }
-
-    /// The refusal's number and name, and the sentence.
-    pub fn parts(self) -> ((u64, &'static str), String) {
-        match self {
-            Self::TooGreat(sentence) => {
-                let range = Refusal::Range { index: 0 };
-                ((range.number(), range.name()), sentence)
-            }
-            Self::Text(sentence) => (TEXT, sentence),
-        }
-    }
-}
-
 #[cfg(test)]
 mod tests {
     use super::*;
 
     #[test]
-    fn plain_lines_are_those_of_the_general_way() {
-        for text in [
-            "0 0\n",
-            "7 -135\n",
-            "999999999 999999999999999999\n",
-            "12 -999999999999999999\n",
-            "12\t-7\r\n",
-        ] {
-            let (id, value, len) = plain_line(text.as_bytes()).unwrap();
-            let line = text.trim_end().as_bytes();
-            assert_eq!(parse_line(line), Ok(Some((id, value))));
-            assert_eq!(len, text.len());
-        }
-        for text in [
-            "",
-            "1",
-            "1 ",
-            "1 2",
-            "1  2\n",
-            "1 -\n",
-            "-1 2\n",
-            "1\r2\n",
-            "1 2\r",
-            "1 2\r\r\n",
-            "x 1\n",
-            "1 x\n",
-            "1234567890 1\n",
-            "1 1234567890123456789\n",
-            "1 +2\n",
-            "1 2 \n",
-        ] {
-            assert_eq!(plain_line(text.as_bytes()), None, "{text}");
-        }
-    }
-
-    #[test]
-    fn lines_and_remarks() {
-        assert_eq!(parse_line(b"  2\t140 \r"), Ok(Some((2, 140))));
-        assert_eq!(parse_line(b"+2 +140"), Ok(Some((2, 140))));
-        assert_eq!(parse_line(b" \r"), Ok(None));
-        assert_eq!(parse_line(b"# ids"), Ok(None));
-        assert_eq!(parse_line(b"4294967295 1"), Ok(Some((u32::MAX, 1))));
-        assert!(matches!(
-            parse_line(b"4294967296 1"),
-            Err(Wrong::TooGreat(_))
-        ));
-        let passed_over = PassedOver(vec![1, 2, 5]);
+    fn lines_of_pairs() {
+        let passed_over = PassedOver {
+            lines: vec![1, 2, 5],
+            order: Vec::new(),
+        };
         let lines: Vec<usize> = (0..3).map(|index| passed_over.line_of(index)).collect();
         assert_eq!(lines, [3, 4, 6]);
     }

@@ -1,4 +1,4 @@
-//! Pairs printed as lines.
+//! Pairs and ids printed as lines.
 
 use std::io::{self, Write};
 
@@ -6,13 +6,16 @@ use crate::progress::Progress;
 
 /// Bytes gathered before they are handed on.
 const PIECE: usize = 1 << 16;
-/// The longest line: an id, a space, a value and a line feed.
-const LONGEST: usize = 10 + 1 + 20 + 1;
+/// The longest pair: an id and a value.
+const LONGEST: usize = 10 + 20;
 
 /// Gathers lines and hands them on in large pieces.
 pub struct Printer<'a> {
     out: &'a mut dyn Write,
     buffer: Vec<u8>,
+    /// What stands before an id, between it and its value, and after that.
+    around: [String; 3],
+    longest: usize,
     done: u64,
     progress: Progress,
 }
@@ -22,22 +25,55 @@ impl<'a> Printer<'a> {
         Self {
             out,
             buffer: Vec::with_capacity(PIECE),
+            around: ["", " ", "\n"].map(String::from),
+            longest: LONGEST + 2,
             done: 0,
             progress,
         }
     }
 
+    /// Pairs in another form.
+    pub fn around(self, around: [String; 3]) -> Self {
+        Self {
+            longest: LONGEST + around.iter().map(String::len).sum::<usize>(),
+            around,
+            ..self
+        }
+    }
+
     pub fn pair(&mut self, id: u32, value: i64) -> io::Result<()> {
-        if self.buffer.len() + LONGEST > PIECE {
+        if self.buffer.len() + self.longest > PIECE {
             self.hand_on()?;
         }
+        let [before, between, after] = &self.around;
+        self.buffer.extend_from_slice(before.as_bytes());
         put(&mut self.buffer, u64::from(id));
-        self.buffer.push(b' ');
+        self.buffer.extend_from_slice(between.as_bytes());
         if value < 0 {
             self.buffer.push(b'-');
         }
         put(&mut self.buffer, value.unsigned_abs());
+        self.buffer.extend_from_slice(after.as_bytes());
+        self.done += 1;
+        Ok(())
+    }
+
+    pub fn id(&mut self, id: u32) -> io::Result<()> {
+        if self.buffer.len() + self.longest > PIECE {
+            self.hand_on()?;
+        }
+        put(&mut self.buffer, u64::from(id));
         self.buffer.push(b'\n');
+        self.done += 1;
+        Ok(())
+    }
+
+    /// A line of another form, or some.
+    pub fn text(&mut self, text: &str) -> io::Result<()> {
+        if self.buffer.len() + text.len() > PIECE {
+            self.hand_on()?;
+        }
+        self.buffer.extend_from_slice(text.as_bytes());
         self.done += 1;
         Ok(())
     }
@@ -56,7 +92,7 @@ impl<'a> Printer<'a> {
 }
 
 /// Puts a number in decimal digits.
-fn put(buffer: &mut Vec<u8>, mut number: u64) {
+pub fn put(buffer: &mut Vec<u8>, mut number: u64) {
     let mut digits = [0; 20];
     let mut start = digits.len();
     loop {

@@ -15,9 +15,16 @@ const PAUSE: Duration = Duration::from_millis(100);
 pub enum Unit {
     Bytes,
     Pairs,
+    Ids,
 }
 
-/// Shows nothing unless standard error is a terminal.
+/// Whether standard error is a terminal that takes the line back by an escape.
+fn is_seen() -> bool {
+    let is_dumb = std::env::var_os("TERM").is_none_or(|term| term.is_empty() || term == "dumb");
+    io::stderr().is_terminal() && !is_dumb
+}
+
+/// Shows nothing unless standard error is a terminal, and not a dumb one.
 pub struct Progress {
     label: String,
     unit: Unit,
@@ -34,7 +41,7 @@ impl Progress {
             label,
             unit,
             total,
-            seen: io::stderr().is_terminal(),
+            seen: is_seen(),
             due: Instant::now() + PATIENCE,
             shown: false,
         }
@@ -66,6 +73,7 @@ fn line(label: &str, unit: Unit, done: u64, total: Option<u64>) -> String {
     let counted = |number| match unit {
         Unit::Bytes => size(number),
         Unit::Pairs => format!("{number} pairs"),
+        Unit::Ids => format!("{number} ids"),
     };
     match total {
         Some(total) if total > 0 => {

@@ -4,26 +4,31 @@ use std::io;
 
 use crate::arguments::Arguments;
 use crate::failure::Failure;
+use crate::forms::Layout;
 use crate::load::Loaded;
-use crate::memory;
 use crate::output::Output;
-use crate::pairs::parse_id;
 use crate::printing::Printer;
 use crate::progress::{Progress, Unit};
 use crate::range::{self, Wanted};
+use crate::replaced::Replaces;
+use crate::scan::read_whole;
 use crate::text::quoted;
+use crate::words::parse_id;
 
 pub fn run(mut arguments: Arguments) -> Result<(), Failure> {
     let wanted = wanted(&arguments)?;
+    let layout = Layout::of(&arguments, arguments.has("json"))?;
+    let given = arguments.digest("digest")?;
     let output = arguments.path("output").unwrap_or_else(|| "-".into());
     let path = arguments.file("column")?;
     arguments.finish()?;
 
     let mut loaded = Loaded::start(&path)?;
-    let output = Output::open(&output, arguments.has("force"), &[loaded.input()])?;
+    let force = arguments.has("force");
+    let output = Output::open(&output, force, Replaces::Nothing, &[loaded.input()])?;
     loaded.finish()?;
     // Checked before room is made: a damaged header may claim any count.
-    let count = loaded.checked()?;
+    let count = loaded.checked(given)?;
     let total = (wanted == Wanted::ALL).then_some(count);
     let progress = Progress::new("printing".to_string(), Unit::Pairs, total);
     let progress = progress.beside(output.is_standard());
@@ -33,7 +38,8 @@ pub fn run(mut arguments: Arguments) -> Result<(), Failure> {
         loaded.bytes = Vec::new();
     }
     output.fill(|out| {
-        let mut printer = Printer::new(out, progress);
+        out.write_all(layout.start().as_bytes())?;
+        let mut printer = Printer::new(out, progress).around(layout.around());
         match &whole {
             Some((ids, values)) => print_all(ids, values, &mut printer)?,
             None => range::print(&loaded.bytes, wanted, &mut printer)?,
@@ -55,22 +61,15 @@ fn wanted(arguments: &Arguments) -> Result<Wanted, Failure> {
         }
     };
     let limit = arguments.number("limit", "count of pairs")?;
+    let (from, to) = (id("from", Wanted::ALL.from)?, id("to", Wanted::ALL.to)?);
+    if from > to {
+        return Err(arguments.usage(format!("--from is above --to: {from} and {to}")));
+    }
     Ok(Wanted {
-        from: id("from", Wanted::ALL.from)?,
-        to: id("to", Wanted::ALL.to)?,
+        from,
+        to,
         limit: limit.unwrap_or(Wanted::ALL.limit),
     })
-}
-
-/// All pairs by one call of the library, which is the fastest way; none where there is no memory for
-/// them. A small column may hold two thousand million.
-fn read_whole(bytes: &[u8], count: u64) -> Option<(Vec<u32>, Vec<i64>)> {
-    // Both at once: the first would be granted where both together are too much.
-    memory::available(count.saturating_mul(4 + 8)).then_some(())?;
-    let mut ids = memory::zeros(count, "ids").ok()?;
-    let mut values = memory::zeros(count, "values").ok()?;
-    signalfern::read(bytes, &mut ids, &mut values).ok()?;
-    Some((ids, values))
 }
 
 fn print_all(ids: &[u32], values: &[i64], printer: &mut Printer) -> io::Result<()> {

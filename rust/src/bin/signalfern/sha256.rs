@@ -24,31 +24,68 @@ pub type Digest = [u8; 32];
 
 /// The digest of these bytes.
 pub fn digest(bytes: &[u8]) -> Digest {
-    let mut state = START;
-    let blocks = bytes.chunks_exact(BLOCK);
-    let rest = blocks.remainder();
-    for block in blocks {
-        compress(&mut state, block);
+    let mut hasher = Hasher::new();
+    hasher.take(bytes);
+    hasher.digest()
+}
+
+/// A digest under way.
+pub struct Hasher {
+    state: [u32; 8],
+    /// The bytes after the last whole block.
+    rest: Vec<u8>,
+    len: u64,
+}
+
+impl Hasher {
+    pub fn new() -> Self {
+        Self {
+            state: START,
+            rest: Vec::with_capacity(BLOCK),
+            len: 0,
+        }
     }
-    // A one bit, zeros, and the count of bits, to fill one block more or two.
-    let mut last = [0; 2 * BLOCK];
-    last[..rest.len()].copy_from_slice(rest);
-    last[rest.len()] = 0x80;
-    let len = if rest.len() + 9 <= BLOCK {
-        BLOCK
-    } else {
-        2 * BLOCK
-    };
-    let bits = (bytes.len() as u64).wrapping_mul(8);
-    last[len - 8..len].copy_from_slice(&bits.to_be_bytes());
-    for block in last[..len].chunks_exact(BLOCK) {
-        compress(&mut state, block);
+
+    /// Takes more bytes.
+    pub fn take(&mut self, bytes: &[u8]) {
+        self.len += bytes.len() as u64;
+        let missing = (BLOCK - self.rest.len()) % BLOCK;
+        let (front, bytes) = bytes.split_at(missing.min(bytes.len()));
+        self.rest.extend(front);
+        if self.rest.len() == BLOCK {
+            compress(&mut self.state, &self.rest);
+            self.rest.clear();
+        }
+        let blocks = bytes.chunks_exact(BLOCK);
+        self.rest.extend(blocks.remainder());
+        for block in blocks {
+            compress(&mut self.state, block);
+        }
     }
-    let mut out = [0; 32];
-    for (place, word) in out.chunks_exact_mut(4).zip(state) {
-        place.copy_from_slice(&word.to_be_bytes());
+
+    /// The digest of all of them.
+    pub fn digest(mut self) -> Digest {
+        // A one bit, zeros, and the count of bits, to fill one block more or two.
+        let rest = &self.rest;
+        let mut last = [0; 2 * BLOCK];
+        last[..rest.len()].copy_from_slice(rest);
+        last[rest.len()] = 0x80;
+        let len = if rest.len() + 9 <= BLOCK {
+            BLOCK
+        } else {
+            2 * BLOCK
+        };
+        let bits = self.len.wrapping_mul(8);
+        last[len - 8..len].copy_from_slice(&bits.to_be_bytes());
+        for block in last[..len].chunks_exact(BLOCK) {
+            compress(&mut self.state, block);
+        }
+        let mut out = [0; 32];
+        for (place, word) in out.chunks_exact_mut(4).zip(self.state) {
+            place.copy_from_slice(&word.to_be_bytes());
+        }
+        out
     }
-    out
 }
 
 /// One block of 64 bytes.
@@ -111,6 +148,17 @@ fn round(state: &mut [u32; 8], input: u32) {
 mod tests {
     use super::*;
     use crate::text::hex;
+
+    /// However the bytes come, the digest is that of all of them at once.
+    #[test]
+    fn piece_by_piece() {
+        let bytes: Vec<u8> = (0..1000_u32).map(|i| (i * 7 % 251) as u8).collect();
+        for piece in [1, 3, 63, 64, 65, 127, 128, 200, 999] {
+            let mut hasher = Hasher::new();
+            bytes.chunks(piece).for_each(|part| hasher.take(part));
+            assert_eq!(hasher.digest(), digest(&bytes), "{piece}");
+        }
+    }
 
     /// NIST's examples for FIPS 180 and messages of its SHAVS files.
     #[test]

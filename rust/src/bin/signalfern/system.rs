@@ -9,7 +9,7 @@ use std::os::unix::ffi::OsStrExt;
 use std::os::unix::net::UnixStream;
 use std::path::Path;
 use std::ptr;
-use std::sync::atomic::{AtomicPtr, Ordering};
+use std::sync::atomic::{AtomicBool, AtomicPtr, Ordering};
 
 extern "C" {
     fn linkat(
@@ -27,12 +27,17 @@ extern "C" {
     fn read(descriptor: c_int, buffer: *mut u8, len: usize) -> isize;
     fn close(descriptor: c_int) -> c_int;
     fn _exit(status: c_int) -> !;
+    fn fcntl(descriptor: c_int, command: c_int, ...) -> c_int;
 }
 
+/// The system's numbers for a name that is too long, and for a file's name where a folder's should stand.
+pub const TOO_LONG: i32 = 36;
+pub const NO_FOLDER: i32 = 20;
 /// An opening flag: a file without a name, in the folder that is opened.
 pub const O_TMPFILE: c_int = 0o20_200_000;
 const AT_FDCWD: c_int = -100;
 const AT_SYMLINK_FOLLOW: c_int = 0x400;
+const F_GETFD: c_int = 1;
 const SIG_DFL: usize = 0;
 const SIG_IGN: usize = 1;
 /// Hang-up, Ctrl-C, and the polite request to end.
@@ -40,6 +45,40 @@ const ENDING: [c_int; 3] = [1, 2, 15];
 
 /// The names of the files that a signal removes; null for none. A command makes two at most.
 static DOOMED: [AtomicPtr<c_char>; 4] = [const { AtomicPtr::new(ptr::null_mut()) }; 4];
+
+/// Which of the standard streams were closed when the program began: input, output, error.
+static CLOSED: [AtomicBool; 3] = [const { AtomicBool::new(false) }; 3];
+
+/// Before `main`, std opens /dev/null in the place of a stream that is closed, and nobody could tell that it
+/// was. The loader runs what is listed here before that.
+#[used]
+#[link_section = ".init_array"]
+static LOOK_FIRST: extern "C" fn() = look_at_streams;
+
+extern "C" fn look_at_streams() {
+    for (descriptor, closed) in (0..).zip(&CLOSED) {
+        // SAFETY: this asks about a descriptor, open or not, and changes nothing.
+        let is_closed = unsafe { fcntl(descriptor, F_GETFD) } == -1;
+        closed.store(is_closed, Ordering::SeqCst);
+    }
+}
+
+/// A standard stream, by its descriptor.
+#[derive(Clone, Copy)]
+pub enum Stream {
+    Input = 0,
+    Output = 1,
+}
+
+impl Stream {
+    /// An error where the program was started without it.
+    pub fn is_there(self) -> io::Result<()> {
+        match CLOSED[self as usize].load(Ordering::SeqCst) {
+            false => Ok(()),
+            true => Err(io::Error::other("it is closed")),
+        }
+    }
+}
 
 fn c_path(path: &Path) -> io::Result<CString> {
     CString::new(path.as_os_str().as_bytes()).map_err(io::Error::from)

@@ -15,6 +15,32 @@ pub fn named(path: &Path) -> String {
     escaped(path.as_os_str().as_bytes(), usize::MAX)
 }
 
+/// A file's name as one would type it in a shell, where it is taken for no option.
+pub fn typed(path: &Path) -> String {
+    let name = path.as_os_str().as_bytes();
+    match name.starts_with(b"-") && !is_standard(path) {
+        true => typed_word(&[b"./", name].concat()),
+        false => typed_word(name),
+    }
+}
+
+/// A word as one would type it in a shell.
+pub fn typed_word(word: &[u8]) -> String {
+    let is_plain_byte = |byte: &u8| byte.is_ascii_alphanumeric() || b"_./,:+@%=-".contains(byte);
+    match std::str::from_utf8(word) {
+        Ok(text) if !word.is_empty() && word.iter().all(is_plain_byte) => text.to_string(),
+        Ok(text) if text.chars().all(is_plain) => format!("'{}'", text.replace('\'', "'\\''")),
+        _ => {
+            let quoted = |&byte: &u8| match byte {
+                b'\'' | b'\\' => format!("\\{}", char::from(byte)),
+                b' '..=b'~' => char::from(byte).to_string(),
+                _ => format!("\\x{byte:02X}"),
+            };
+            format!("$'{}'", word.iter().map(quoted).collect::<String>())
+        }
+    }
+}
+
 /// Whether a path stands for a standard stream.
 pub fn is_standard(path: &Path) -> bool {
     path.as_os_str() == "-"
@@ -32,7 +58,7 @@ pub fn cut(word: &[u8]) -> String {
 
 /// Bytes as printable text: what would move the cursor, change the terminal or turn the reading
 /// direction is escaped, and so are bytes that are no UTF-8. Cut after `most` characters.
-fn escaped(bytes: &[u8], most: usize) -> String {
+pub fn escaped(bytes: &[u8], most: usize) -> String {
     let mut out = String::new();
     let mut left = most;
     for chunk in bytes.utf8_chunks() {
@@ -59,7 +85,8 @@ fn escaped(bytes: &[u8], most: usize) -> String {
     out
 }
 
-fn is_plain(character: char) -> bool {
+/// Whether a character is shown as it is and moves nothing.
+pub fn is_plain(character: char) -> bool {
     let turns = matches!(character, '\u{200B}'..='\u{200F}' | '\u{2028}'..='\u{202E}'
         | '\u{2060}'..='\u{206F}' | '\u{FEFF}');
     !character.is_control() && !turns
@@ -109,6 +136,23 @@ mod tests {
         assert_eq!(quoted("x".repeat(40)), format!("`{}`", "x".repeat(40)));
         assert_eq!(named(Path::new("-")), "standard input");
         assert_eq!(named(Path::new("a\nb")), "a\\nb");
+    }
+
+    #[test]
+    fn names_as_they_are_typed() {
+        for (name, typed_as) in [
+            ("a/b.column", "a/b.column"),
+            ("-", "-"),
+            ("-x", "./-x"),
+            ("two words", "'two words'"),
+            ("it's", "'it'\\''s'"),
+            ("-a b", "'./-a b'"),
+            ("\u{e9}", "'\u{e9}'"),
+            ("a\nb'", "$'a\\x0Ab\\''"),
+            ("", "''"),
+        ] {
+            assert_eq!(typed(Path::new(name)), typed_as);
+        }
     }
 
     #[test]

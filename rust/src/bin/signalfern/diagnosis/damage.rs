@@ -33,7 +33,9 @@ fn judged(header: &Header, bytes: &[u8]) -> Option<String> {
     let Err(Fault::At { reason, place }) = section.judge() else {
         return None;
     };
-    let (code, block) = (reason.name(), block_of(&section, reason, place));
+    let block = block_of(&section, reason, place);
+    let block = block.map_or(String::new(), |block| format!(", block {block}"));
+    let code = reason.name();
     let at = byte_at(header.len() + place);
     Some(format!(
         "the id section is faulty, {code}, from {at}{block} on: {reason}"

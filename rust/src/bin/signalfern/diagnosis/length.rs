@@ -12,6 +12,9 @@ const NEAR: u128 = 1 << 20;
 
 const MENDED: &str = "line endings were changed (LF to CR LF): changed back, it is a sound column";
 const REPLACED: &str = "it was converted as if it were text: bytes were replaced by U+FFFD";
+const STRIPPED: &str =
+    "zero bytes were taken out of it, it seems, as programs do that take a file for text: \
+                        there is none in it, and each column has some in its end block";
 const BINARY: &str = "transfer the file again in binary mode, not as text";
 
 /// Something that happened to a file, and what to do about it.
@@ -36,9 +39,10 @@ pub fn explain(header: &Header, bytes: &[u8], len: Option<u64>) -> Diagnosis {
     if u128::from(there) < told {
         let missing = told - u128::from(there);
         let line = format!("{parts}, and {there} are there: {missing} too few");
-        let (guess, advice) = match was_replaced(bytes) {
-            true => (REPLACED.to_string(), BINARY.to_string()),
-            false => too_short(header, bytes, missing, is_whole),
+        let (guess, advice) = match (was_replaced(bytes), is_whole && was_stripped(bytes)) {
+            (true, _) => (REPLACED.to_string(), BINARY.to_string()),
+            (_, true) => (STRIPPED.to_string(), BINARY.to_string()),
+            _ => too_short(header, bytes, missing, is_whole),
         };
         return Diagnosis::new(vec![line, guess], advice);
     }
@@ -140,6 +144,14 @@ fn was_replaced(bytes: &[u8]) -> bool {
     text.contains(char::REPLACEMENT_CHARACTER)
 }
 
+/// Whether all zero bytes were taken out: none is there, but what is left of an end block.
+fn was_stripped(bytes: &[u8]) -> bool {
+    !bytes.contains(&0)
+        && bytes
+            .windows(4)
+            .any(|part| part == [0xFF, 0x7F, 0xFF, 0xFF])
+}
+
 /// How many line feeds stand alone, and how many after a return.
 fn line_ends(bytes: &[u8]) -> (usize, usize) {
     let feeds = bytes.iter().filter(|&&byte| byte == b'\n').count();
@@ -162,6 +174,7 @@ pub fn converted_to_text(bytes: &[u8], is_whole: bool) -> Option<Diagnosis> {
     let what = match is_whole && is_sound_without_returns(bytes) {
         true => MENDED,
         false if was_replaced(bytes) => REPLACED,
+        false if is_whole && was_stripped(bytes) => STRIPPED,
         false => return None,
     };
     Some(Diagnosis::new(vec![what.to_string()], BINARY))

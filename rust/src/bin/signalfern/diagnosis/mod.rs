@@ -18,6 +18,7 @@ use signalfern::Refusal;
 
 use crate::header::Header;
 use crate::load::Loaded;
+use crate::text::{counted, typed};
 
 /// An explanation, and what to do next.
 pub struct Diagnosis {
@@ -45,12 +46,26 @@ pub struct Finding {
     pub why: String,
 }
 
+/// Files up to here are read whole to see whether they are sets.
+const SMALL: u64 = 1 << 24;
+
 const COPY_AGAIN: &str =
     "take the file again from where it was written, and compare the two by sha256sum";
 
 impl Diagnosis {
     /// Explains a refusal by the check; may read on in the file.
     pub fn of(loaded: &mut Loaded, refusal: Refusal) -> Self {
+        // Where it cannot be read, the first bytes have to do.
+        if loaded.len.is_some_and(|len| len <= SMALL) && loaded.read_to(SMALL).is_ok() {
+            if let Ok(ids) = signalfern::set_check(&loaded.bytes) {
+                let line = format!("this is a set of {}, and no column", counted(ids, "id"));
+                let file = typed(loaded.path());
+                return Self::new(
+                    vec![line],
+                    format!("check it as a set: signalfern set check {file}"),
+                );
+            }
+        }
         let worth_reading = match Header::parse(&loaded.bytes) {
             Ok(header) if refusal == Refusal::Length => length::worth_reading(&header),
             _ if refusal != Refusal::Damaged && length::has_returns(&loaded.bytes) => length::MOST,
@@ -90,6 +105,12 @@ impl Diagnosis {
             advice: advice.into(),
             broken: None,
         }
+    }
+
+    /// The lines, as they stand below a refusal.
+    pub fn text(&self) -> String {
+        let lines = self.lines.iter().map(|line| format!("  {line}\n"));
+        lines.collect::<String>() + &format!("What to do: {}.\n", self.advice)
     }
 
     /// With a cause, if one is known, and what to do about that.

@@ -48,20 +48,31 @@ pub fn stranger(bytes: &[u8]) -> Option<Diagnosis> {
             "name the column: the file of digests beside it is then used",
         ));
     }
-    if let Some(kind) = other_kind(bytes) {
-        let advice = "see whether this is the right file";
-        return Some(Diagnosis::new(vec![kind.to_string()], advice));
+    Diagnosis::of_stranger(bytes, "pairs", "write FILE -o COLUMN")
+}
+
+impl Diagnosis {
+    /// Of a file that is packed or a text, which may be a list of such things that a command makes a file of.
+    pub fn of_stranger(bytes: &[u8], things: &str, command: &str) -> Option<Self> {
+        if let Some(stranger) = other_kind(bytes) {
+            let advice = format!(
+                "{}, and see whether it is then the right file",
+                stranger.advice
+            );
+            return Some(Self::new(vec![stranger.what.to_string()], advice));
+        }
+        let unmarked = bytes.strip_prefix(b"\xEF\xBB\xBF");
+        let text = unmarked.unwrap_or(bytes);
+        let is_sign = |byte: &u8| byte.is_ascii_graphic() || byte.is_ascii_whitespace();
+        if text.is_empty() || !text.iter().all(is_sign) {
+            return None;
+        }
+        let line = text.split(|&byte| byte == b'\n' || byte == b'\r').next()?;
+        let mark = unmarked.map_or("", |_| ", after a byte order mark,");
+        let line = quoted(line.trim_ascii_end());
+        Some(Self::new(
+            vec![format!("this is text; its first line{mark} is {line}")],
+            format!("if it is a list of {things}, make one of it: signalfern {command}"),
+        ))
     }
-    let is_text = !bytes.is_empty()
-        && bytes
-            .iter()
-            .all(|byte| byte.is_ascii_graphic() || byte.is_ascii_whitespace());
-    if !is_text {
-        return None;
-    }
-    let line = quoted(line.trim_ascii_end());
-    Some(Diagnosis::new(
-        vec![format!("this is text; its first line is {line}")],
-        "if it is a list of pairs, make a column of it: signalfern write FILE -o COLUMN",
-    ))
 }

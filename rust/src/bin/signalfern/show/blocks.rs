@@ -4,30 +4,43 @@ use std::fmt::Write;
 
 use super::{as_far, first_and_last};
 use crate::blocks::{rank_bytes, Block, Kind, Section, BITMAP, HEAD};
+use crate::json::Object;
 
 // Writing to a string cannot fail, so the results below are dropped.
 
 /// Neighbouring blocks of one kind, which make a row.
 #[derive(Clone, Copy, Debug, PartialEq, Eq)]
 pub struct Row {
-    kind: Kind,
+    pub kind: Kind,
     first: u64,
     last: u64,
-    ids: u64,
-    bytes: u64,
+    pub ids: u64,
+    pub bytes: u64,
 }
 
 impl Row {
-    fn blocks(&self) -> u64 {
+    pub fn blocks(&self) -> u64 {
         self.last - self.first + 1
     }
 
+    /// The numbers of its blocks.
+    pub fn numbers(&self) -> String {
+        match self.first == self.last {
+            true => self.first.to_string(),
+            false => format!("{} to {}", self.first, self.last),
+        }
+    }
+
+    pub fn object(&self) -> Object {
+        let object = Object::new()
+            .number("first", self.first)
+            .number("last", self.last);
+        let object = object.text("kind", self.kind.name());
+        object.number("ids", self.ids).number("bytes", self.bytes)
+    }
+
     fn put(&self, out: &mut String) {
-        let numbers = if self.first == self.last {
-            self.first.to_string()
-        } else {
-            format!("{} to {}", self.first, self.last)
-        };
+        let numbers = self.numbers();
         let counts = [self.blocks(), self.ids, self.bytes];
         row(out, &numbers, self.kind.name(), counts);
     }

@@ -1,19 +1,27 @@
 //! show: a column as a person may want to see it.
 
-mod blocks;
-mod values;
+pub mod blocks;
+mod object;
+pub mod values;
 
 use std::fmt::Write;
 
 use crate::arguments::Arguments;
+use crate::audit::Subject;
 use crate::blocks::{Section, END};
+use crate::check::{refused_object, Refused};
 use crate::diagnosis::Diagnosis;
-use crate::failure::{complain, Failure, REFUSED};
+use crate::failure::{complain, say, Failure, DIGEST, REFUSED};
 use crate::header::{smallest, Header, NAMES};
+use crate::html;
+use crate::json::Object;
 use crate::load::Loaded;
-use crate::output::print;
+use crate::output::{print, Output};
 use crate::packing::Packing;
-use crate::text::counted;
+use crate::replaced::Replaces;
+use crate::sha256::Digest;
+use crate::text::{counted, hex};
+use crate::witness::Witnesses;
 use blocks::Sizes;
 
 /// Rows shown at the beginning and at the end of a long table.
@@ -23,23 +31,99 @@ const LAST_ROWS: usize = 5;
 const BAR: u128 = 40;
 
 pub fn run(mut arguments: Arguments) -> Result<(), Failure> {
+    let given = arguments.digest("digest")?;
     let path = arguments.file("column")?;
     arguments.finish()?;
+    arguments.one_form()?;
     let mut loaded = Loaded::open(&path)?;
-    let refusal = match loaded.check() {
-        Ok(_) => return print(&picture(&loaded, "")),
-        Err(refusal) => refusal,
+    let force = arguments.has("force");
+    let html = arguments
+        .path("html")
+        .map(|path| Output::open(&path, force, Replaces::Reports, &[loaded.input()]));
+    let html = html.transpose()?;
+    let json = arguments.has("json");
+    let (count, witnesses) = match judged(&mut loaded, given)? {
+        Ok(sound) => sound,
+        Err(refused) => return tell_refused(&loaded, &refused, html.is_some(), json),
     };
-    // The explanation may read more of the file, which can then be shown.
-    let diagnosis = Diagnosis::of(&mut loaded, refusal);
-    let (number, code) = (refusal.number(), refusal.name());
-    let mark = format!("REFUSED ({number}, {code}); what can be made out:");
-    let shown = print(&picture(&loaded, &mark));
-    complain(format!(
-        "{}: refusal {number}, {code}: {refusal}",
-        loaded.name
-    ));
-    diagnosis.tell();
+    if let Some(output) = html {
+        let subject = Subject {
+            layer: None,
+            loaded: &loaded,
+            count,
+            witnesses,
+        };
+        let page = html::show(&subject)?;
+        return output.fill_whole(|out| out.write_all(page.as_bytes()));
+    }
+    if !json {
+        return print(&picture(&loaded, ""));
+    }
+    let object = Object::new().file("file", &path).text("status", "sound");
+    let object = object.number("bytes", loaded.bytes.len() as u64);
+    let object = object.text("sha256", &hex(&loaded.digest()));
+    let object = object.texts("compared", &witnesses);
+    print(&object::of(&loaded.bytes, object).line())
+}
+
+/// The count of pairs and who confirmed the digest, or why the file is refused.
+type Judged = Result<(u64, Vec<String>), Refused>;
+
+fn judged(loaded: &mut Loaded, given: Option<Digest>) -> Result<Judged, Failure> {
+    let count = match loaded.check() {
+        Ok(count) => count,
+        Err(refusal) => {
+            return Ok(Err(Refused {
+                refusal: (refusal.number(), refusal.name()),
+                meaning: refusal.to_string(),
+                // The explanation may read more of the file, which can then be shown.
+                diagnosis: Diagnosis::of(loaded, refusal),
+            }));
+        }
+    };
+    let witnesses = Witnesses::of(loaded.path(), given)?;
+    if !witnesses.is_empty() {
+        if let Err(differs) = witnesses.confirm(loaded.digest(), "column") {
+            return Ok(Err(Refused {
+                refusal: DIGEST,
+                meaning: differs.meaning(),
+                diagnosis: differs.diagnosis(),
+            }));
+        }
+    }
+    Ok(Ok((count, witnesses.names())))
+}
+
+/// What can be made out of a refused column; there is no report of one.
+fn tell_refused(
+    loaded: &Loaded,
+    refused: &Refused,
+    report: bool,
+    json: bool,
+) -> Result<(), Failure> {
+    let Refused {
+        refusal: (number, code),
+        meaning,
+        diagnosis,
+    } = refused;
+    let shown = match (report, json) {
+        (true, _) => Ok(()),
+        (false, true) => {
+            let object = Object::new().file("file", loaded.path());
+            let object = refused_object(object, refused.refusal, meaning);
+            let object = object::of(&loaded.bytes, object);
+            print(&diagnosis.json(object).line())
+        }
+        (false, false) => {
+            let mark = format!("REFUSED ({number}, {code}); what can be made out:");
+            print(&picture(loaded, &mark))
+        }
+    };
+    if report || !json {
+        let name = &loaded.name;
+        complain(format!("{name}: refusal {number}, {code}: {meaning}"));
+        say(&diagnosis.text());
+    }
     match shown {
         Ok(()) | Err(Failure::OutputClosed) => Err(Failure::Said(REFUSED)),
         failed => failed,
@@ -98,7 +182,8 @@ fn header_rows(out: &mut String, numbers: &[u64], bytes: usize) {
     }
 }
 
-fn remark(packing: Option<Packing>, index: usize, number: u64) -> String {
+/// What is said of a header number beside it.
+pub fn remark(packing: Option<Packing>, index: usize, number: u64) -> String {
     match (index, number) {
         (0, _) => packing.map_or(String::new(), |it| it.about().to_string()),
         (5 | 6, 0) if packing == Some(Packing::Runs) => "each run has its own".to_string(),
@@ -139,7 +224,8 @@ fn first_and_last<T>(
     last.iter().for_each(|row| put(out, row));
 }
 
-fn sections(out: &mut String, header: &Header, sizes: &Sizes) {
+/// The parts of a column and their bytes, in the order of the file; of a header that keeps the rules.
+pub fn parts(header: &Header, sizes: &Sizes) -> Vec<(&'static str, u128)> {
     let total = header.total();
     let front = values::front(header);
     let before = front.map_or(0, |(_, bytes)| bytes);
@@ -160,6 +246,12 @@ fn sections(out: &mut String, header: &Header, sizes: &Sizes) {
     if known < total {
         rows.push(("not made out", total - known));
     }
+    rows
+}
+
+fn sections(out: &mut String, header: &Header, sizes: &Sizes) {
+    let total = header.total();
+    let rows = parts(header, sizes);
     let longest = rows.iter().map(|row| row.1).max().unwrap_or(0).max(1);
     let _ = writeln!(out, "\nWhere the {total} bytes go");
     for (name, bytes) in rows {
@@ -170,7 +262,7 @@ fn sections(out: &mut String, header: &Header, sizes: &Sizes) {
 }
 
 /// A part of a whole, in percent.
-fn share(part: u128, whole: u128) -> String {
+pub fn share(part: u128, whole: u128) -> String {
     format!("{:>5.1}%", 100.0 * part as f64 / whole as f64)
 }
 

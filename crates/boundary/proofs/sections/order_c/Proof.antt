@@ -1,7 +1,0 @@
--- `boundary::sections::order_c` meets its contract. Assumes nothing.
-use Rattle.format.specs.Kit.{eq-eqb, ne-eqb}
-use Rattle.boundary.proofs.sections.order_c.Statement.{statement}
-use Rattle.boundary.proofs.sections.order_c.Tie as tie
-
-pub order-c-spec : {M : Type 1} → statement M
-order-c-spec = tie.close (tie.spec (λ c. rw (eq-eqb _ 0 (c .if1 .taken))) (λ c. rw (ne-eqb _ 0 (c .if1 .left))))

@@ -1,0 +1,137 @@
+"""Takes the checks of numbers out of the package, one at a time, and sees that test_exact.py fails each time; then those of memory, by test_memory.py.
+
+(python3 python/tests/mutations.py [--without-numpy])
+"""
+
+import importlib
+import os
+import pathlib
+import shutil
+import subprocess
+import sys
+import tempfile
+import unittest
+
+HERE = pathlib.Path(__file__).resolve().parent
+if "--without-numpy" in sys.argv:
+    sys.modules["numpy"] = None  # (so that importing it fails)
+try:
+    import numpy
+except ImportError:
+    numpy = None
+
+ANY, WITH, WITHOUT = "any", "with numpy", "without numpy"
+# Where the edit shows, the file, what stands there, and what is put in its place.
+NUMBERS = [
+    (ANY, "_exact", "    if least <= number <= greatest:\n", "    if True:\n"),
+    (ANY, "_exact", "    if isinstance(number, _TRUTHS):\n", "    if False:\n"),
+    (WITH, "_exact", "(bool, numpy.bool_)", "(bool,)"),
+    (ANY, "_exact", "return index(number)", "return int(number)"),
+    (ANY, "_exact", "type(number) is int and 0 <= number <= MAX_ID", "type(number) is int"),
+    (ANY, "_exact", "type(number) is int and 0 <= number <= MAX_ID", "type(number) is int and number <= MAX_ID"),
+    (ANY, "_exact", "MAX_ID = 2147352575", "MAX_ID = 2**32 - 1"),
+    (ANY, "_exact", '-(1 << 63), (1 << 63) - 1)', '-(1 << 64), (1 << 64) - 1)'),
+    (WITH, "_exact", "    if numbers.ndim != 1:\n", "    if False:\n"),
+    (WITH, "_exact", '    if dtype.kind not in "iu":\n', '    if dtype.kind == "O":\n'),
+    (WITH, "_exact", '    if dtype.kind not in "iu":\n', '    if dtype.kind not in "iub":\n'),
+    (WITH, "_exact", "return _taken_list(numbers.tolist(), kind)", "return numpy.array(numbers, kind.dtype)"),
+    (WITH, "_exact", "if not kind.least <= number <= kind.greatest:", "if False:"),
+    (WITH, "_exact", '(numbers.argmin(), numbers.argmax()) if dtype.kind == "i" else (numbers.argmax(),)', "(numbers.argmax(),)"),
+    (WITH, "_exact", '(numbers.argmin(), numbers.argmax()) if dtype.kind == "i" else (numbers.argmax(),)', "(numbers.argmin(),)"),
+    (WITH, "_exact", "number = numbers.item(at)", "number = numbers[at]"),
+    (WITH, "_exact", "not (same and kind is VALUES)", "not same"),
+    (WITH, "_exact", "same and flags.c_contiguous and flags.aligned", "same and flags.c_contiguous"),
+    (WITH, "_exact", "same and flags.c_contiguous and flags.aligned", "same and flags.aligned"),
+    (WITH, "_exact", "same and flags.c_contiguous and flags.aligned", "flags.c_contiguous and flags.aligned"),
+    (WITH, "_exact", "same = dtype == kind.dtype", "same = dtype.itemsize == kind.size"),
+    (WITH, "_exact", "    if isinstance(numbers, numpy.ma.MaskedArray):\n", "    if False:\n"),
+    (WITHOUT, "_exact", "max(view, default=0) <= kind.greatest", "True"),
+    (WITHOUT, "_exact", "letter == kind.letter and", "view.itemsize == kind.size and"),
+    (WITHOUT, "_exact", "view.c_contiguous and Lent", "Lent"),
+    (WITHOUT, "_exact", "and Lent(view, kind.size).address % kind.size == 0", ""),
+    (WITHOUT, "_exact", "    if view.ndim != 1:\n", "    if False:\n"),
+    (ANY, "_exact", "    if any(kind_of is not int for kind_of in set(map(type, numbers))):\n", "    if False:\n"),
+    (ANY, "_exact", "return made if max(made, default=0) <= kind.greatest else None", "return made"),
+    (ANY, "_exact", "made.append(exact(number, kind.what, kind.least, kind.greatest))", "made.append(number)"),
+    (ANY, "_exact", "isinstance(numbers, (str, dict))", "isinstance(numbers, str)"),
+    (ANY, "writing", "return exact(number, what, 0, 2**32 - 1)", "return number"),
+    (ANY, "writing", "return exact(number, what, 0, 2**32 - 1)", "return exact(number, what, 0, 2**64 - 1)"),
+    (ANY, "sections", 'jump_count = exact(jump_count, "a count of jump entries", 0, 2**64 - 1)', "pass"),
+    (ANY, "sections", 'power = exact(power, "a rank power", 0, 2**64 - 1)', "pass"),
+    (ANY, "column", "lent.bytes, exact_id(id), answer", "lent.bytes, id, answer"),
+    (ANY, "column", "self._candidate(lent, exact_id(id))", "self._candidate(lent, id)"),
+    (ANY, "column", "lent, target = self._bytes(), exact_id(id)", "lent, target = self._bytes(), id"),
+    (ANY, "column", 'range(exact(count, "a count", 0, 2**63 - 1))', "range(count)"),
+    (ANY, "column", "exact_value(low), exact_value(high), b)", "low, exact_value(high), b)"),
+    (ANY, "column", "exact_value(low), exact_value(high), b)", "exact_value(low), high, b)"),
+    (ANY, "_scores", "self._pairs(exact_id(id), self._hold())", "self._pairs(id, self._hold())"),
+    (ANY, "layered", "correction.bytes, exact_id(id), a", "correction.bytes, id, a"),
+    (ANY, "layered", "correction.bytes, exact_id(id), part", "correction.bytes, id, part"),
+    (ANY, "layered", "low, high = exact_value(low), exact_value(high)", "low, high = low, exact_value(high)"),
+    (ANY, "layered", "low, high = exact_value(low), exact_value(high)", "low, high = exact_value(low), high"),
+    (ANY, "layered", 'count = exact(count, "a count", 0, 2**63 - 1)', "pass"),
+    (ANY, "sets", "lent.bytes, exact_id(id), member", "lent.bytes, id, member"),
+]
+MEMORY = [
+    (ANY, "_scores", "self._pairs(exact_id(id), self._hold())", "self._pairs(exact_id(id), None)"),
+    (ANY, "_held", "self._lent = lend(self._buffer)\n", "pass\n"),
+    (ANY, "_held", "if isinstance(self._buffer, _Map):", "if isinstance(self._buffer, mmap.mmap):"),
+    (ANY, "_held", "if isinstance(self._buffer, _Map):", "if False:"),
+    (ANY, "_held", 'raise ValueError("it is closed")', 'return lend(b"")'),
+    (ANY, "_memory", "        if self._view.itemsize != size:", "        if False:"),
+]
+CAUGHT, PASSED, UNUSABLE = 0, 1, 2
+
+
+def tried(folder, tests):
+    """What these tests say of the package in a folder: run in a process of its own, that has numpy loaded already."""
+    child = os.fork()
+    if child == 0:
+        ended = UNUSABLE
+        try:
+            with open(os.devnull, "w") as nowhere:
+                os.dup2(nowhere.fileno(), 1)
+                os.dup2(nowhere.fileno(), 2)
+            sys.path[0] = str(folder)
+            suite = unittest.defaultTestLoader.loadTestsFromModule(importlib.import_module(tests))
+            ended = PASSED if unittest.TextTestRunner(failfast=True).run(suite).wasSuccessful() else CAUGHT
+        finally:
+            os._exit(ended)
+    return os.waitstatus_to_exitcode(os.waitpid(child, 0)[1])
+
+
+def library():
+    """The library that the package in this tree takes: its copies are elsewhere."""
+    ask = "from signalfern import _library; print(_library._LIBRARY._name)"
+    return subprocess.run([sys.executable, "-c", ask], cwd=HERE.parent, stdout=subprocess.PIPE, text=True, check=True).stdout.strip()
+
+
+def as_expected(folder, name, old, new, tests, want):
+    """Whether the tests of a package with this edit end as they must."""
+    for part in ("signalfern", "tests"):
+        shutil.copytree(HERE.parent / part, folder / part, ignore=shutil.ignore_patterns("__pycache__"))
+    file = folder / "signalfern" / f"{name}.py"
+    text = file.read_text()
+    file.write_text(text.replace(old, new))
+    return text.count(old) == 1 and tried(folder, tests) == want
+
+
+def main():
+    os.environ["SIGNALFERN_LIBRARY"] = library()
+    other = WITHOUT if numpy is not None else WITH
+    passed, failed = 0, 0
+    for tests, edits in (("tests.test_exact", NUMBERS), ("tests.test_memory", MEMORY)):
+        # (the first is no edit, and must pass)
+        for number, (where, name, old, new) in enumerate([(ANY, "__init__", '"""Score', '"""Score'), *edits]):
+            if where != other:
+                with tempfile.TemporaryDirectory() as folder:
+                    right = as_expected(pathlib.Path(folder), name, old, new, tests, CAUGHT if number else PASSED)
+                passed, failed = passed + right, failed + (not right)
+                if not right:
+                    print(f"mutations: {tests} is not as it must be with {old.strip()!r} as {new.strip()!r} in {name}.py")
+    print(f"{passed} passed, {failed} failed, 0 skipped")
+    return failed != 0
+
+
+if __name__ == "__main__":
+    sys.exit(main())
