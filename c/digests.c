@@ -12,7 +12,7 @@
 #include <stdlib.h>
 #include <string.h>
 
-enum { FULL = 65536, PAIRS = FULL + 14000, BYTES = 1000000, PAGE = 64, DAMAGED = 6 };
+enum { FULL = 65536, PAIRS = FULL + 14000, BYTES = 1000000, PAGE = 64, DAMAGED = 6, ROOM = 70 };
 
 static uint32_t ids[PAIRS], back_ids[PAIRS], page_ids[PAGE];
 static int64_t values[PAIRS], back_values[PAIRS], page_values[PAGE], table[SIGNALFERN_MAX_TABLE];
@@ -61,6 +61,23 @@ static void take_candidate(signalfern_candidate c)
 {
     calls++;
     take(c.kind), take(c.number), take(c.id), take(c.ordinal), take((uint64_t)c.value), take(c.cursor.last);
+}
+
+/* The answer, and every place of both lists, written or not. */
+static void take_readout(signalfern_readout r, size_t ids_len, size_t values_len)
+{
+    calls++;
+    take(r.kind), take(r.number), take(r.count);
+    for (size_t i = 0; i < ids_len; i++)
+        take(back_ids[i]);
+    for (size_t i = 0; i < values_len; i++)
+        take((uint64_t)back_values[i]);
+}
+
+static void take_pair(signalfern_pair p)
+{
+    calls++;
+    take(p.kind), take(p.number), take(p.id), take(p.ordinal), take((uint64_t)p.value);
 }
 
 static void take_between(signalfern_between b)
@@ -140,6 +157,23 @@ static void walk(const uint8_t *bytes, size_t len, signalfern_column c)
         int64_t low = values[any(PAIRS)], high = (int64_t)((uint64_t)low + any(99) - 9);
         take_between(signalfern_first_between(bytes, len, low, high));
         take_between(signalfern_first_between_in(c, bytes, len, low, high));
+        uint64_t from = any(PAIRS + 9);
+        take_between(signalfern_first_between_from(bytes, len, from, low, high));
+        take_between(signalfern_first_between_from_in(c, bytes, len, from / 2, low, high));
+    }
+}
+
+/* Pairs from an id on, into lists of any lengths, and pairs by their ordinals. */
+static void read_on(const uint8_t *bytes, size_t len, signalfern_column c)
+{
+    for (int i = 0; i < 16; i++) {
+        uint32_t id = i % 4 ? ids[any(PAIRS)] : (uint32_t)any((uint64_t)SIGNALFERN_MAX_ID + 3);
+        size_t ids_len = any(ROOM), values_len = any(ROOM);
+        take_readout(signalfern_read_from(bytes, len, id, back_ids, ids_len, back_values, values_len), ids_len, values_len);
+        take_readout(signalfern_read_from_in(c, bytes, len, id / 2, back_ids, values_len, back_values, ids_len), values_len, ids_len);
+        uint64_t ordinal = any(PAIRS + 9);
+        take_pair(signalfern_pair_at(bytes, len, ordinal));
+        take_pair(signalfern_pair_at_in(c, bytes, len, ordinal / 2));
     }
 }
 
@@ -165,6 +199,7 @@ static void ask(const uint8_t *bytes, size_t len, size_t top_len)
         take(back_ids[i]), take((uint64_t)back_values[i]);
     ask_ids(bytes, len, c);
     walk(bytes, len, c);
+    read_on(bytes, len, c);
     ask_layers(bytes, len, c, top_len);
     size_t start = c.refusal ? 0 : c.start, section = c.refusal ? len : c.id_bytes;
     for (uint32_t order = 0; order < 2; order++)

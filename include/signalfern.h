@@ -3,8 +3,8 @@
  *
  * A column is a byte string that holds n pairs: an id (0 to 2147352575, strictly ascending) and a
  * signed 64-bit value. It can be written, by a plan too, checked, read whole, asked for one id or for a
- * page of them, walked over from id to id, searched for a value, and overlaid with a correction. x86-64
- * Linux.
+ * page of them, walked over from id to id, read from an id on, asked for an ordinal, searched for a value,
+ * and overlaid with a correction. Linux on x86-64 and ARM64.
  *
  *     cc program.c $(pkg-config --cflags --libs signalfern)     after `make install`
  *
@@ -183,6 +183,25 @@ typedef struct {
     int64_t value;            /* Found: its value. */
     signalfern_cursor cursor; /* Found or none: the target is its last. Refused: the cursor as it was. */
 } signalfern_candidate;
+
+/* The kinds of a readout that are no refusal. Refusal 1 is never given by signalfern_read_from. */
+enum { SIGNALFERN_MORE = 0, SIGNALFERN_ENDED = 1 };
+
+/* What signalfern_read_from answers beside the lists that it fills. */
+typedef struct {
+    uint64_t kind;   /* SIGNALFERN_MORE, SIGNALFERN_ENDED, or the refusal: 7 to 11, 14, 15. */
+    uint64_t number; /* Refused: the number with the refusal. Otherwise 0. */
+    uint64_t count;  /* More or ended: how many pairs were placed. Refused: 0. */
+} signalfern_readout;
+
+/* What signalfern_pair_at answers. Fields that a case does not name hold 0. */
+typedef struct {
+    uint64_t kind;    /* SIGNALFERN_FOUND, SIGNALFERN_NONE, or the refusal: 7 to 11, 15. */
+    uint64_t number;  /* Refused: the number with the refusal. */
+    uint64_t id;      /* Found: the id at this ordinal. */
+    uint64_t ordinal; /* Found: the ordinal. */
+    int64_t value;    /* Found: the id's value. */
+} signalfern_pair;
 
 /* What signalfern_first_between answers. Fields that a case does not name hold 0. */
 typedef struct {
@@ -462,6 +481,79 @@ static inline signalfern_candidate signalfern_next_in(signalfern_column column, 
 }
 
 /*
+ * Reads the pairs from an id on, as many as both lists have places: a walk in bulk.
+ *
+ * Place 0 holds what signalfern_next with a new cursor answers for the id, place 1 what it answers for the
+ * id after that one, and so on, until no listed id is left, a list is full, or the next one would be
+ * refused. More: count pairs were placed, and a call from the last id + 1 goes on. Ended: count pairs were
+ * placed, and no listed id is left above them. The places after the pairs stay as they were.
+ *
+ * Refused only where the very first pair is, with room for it or not: 14, then 7 to 11, then 15; nothing is
+ * written. A failed step after the first pair is more: the call that goes on is refused. With a list of no
+ * places the answer tells whether a listed id is left. Reading on from the last id + 1 gives each pair once,
+ * whatever the lists' lengths; on bytes that signalfern_check accepts, the whole pair list.
+ */
+void signalfern_read_from_to(const uint8_t *bytes, size_t len, uint32_t id, uint32_t *ids, size_t ids_len,
+                             int64_t *values, size_t values_len, signalfern_readout *readout);
+
+static inline signalfern_readout signalfern_read_from(const uint8_t *bytes, size_t len, uint32_t id,
+                                                      uint32_t *ids, size_t ids_len, int64_t *values,
+                                                      size_t values_len)
+{
+    signalfern_readout readout;
+    signalfern_read_from_to(bytes, len, id, ids, ids_len, values, values_len, &readout);
+    return readout;
+}
+
+/*
+ * The same in a column opened before. With the column of signalfern_open(bytes, len), not refused, and the
+ * same bytes, answer and lists are those of signalfern_read_from. Any other column is allowed too, as for
+ * signalfern_look_up_in. Refused: 14, 10, 11, 15.
+ */
+void signalfern_read_from_in_to(const signalfern_column *column, const uint8_t *bytes, size_t len, uint32_t id,
+                                uint32_t *ids, size_t ids_len, int64_t *values, size_t values_len,
+                                signalfern_readout *readout);
+
+static inline signalfern_readout signalfern_read_from_in(signalfern_column column, const uint8_t *bytes,
+                                                         size_t len, uint32_t id, uint32_t *ids, size_t ids_len,
+                                                         int64_t *values, size_t values_len)
+{
+    signalfern_readout readout;
+    signalfern_read_from_in_to(&column, bytes, len, id, ids, ids_len, values, values_len, &readout);
+    return readout;
+}
+
+/*
+ * The pair with an ordinal: the look-up's steps the other way round. The jump entries are halved for the
+ * block, a dense block's ranks for the stride.
+ *
+ * Found, none or refused: 7 to 11; none for an ordinal of n or more; then 15. On bytes that signalfern_check
+ * accepts the answer is the pair list's.
+ */
+void signalfern_pair_at_to(const uint8_t *bytes, size_t len, uint64_t ordinal, signalfern_pair *pair);
+
+static inline signalfern_pair signalfern_pair_at(const uint8_t *bytes, size_t len, uint64_t ordinal)
+{
+    signalfern_pair pair;
+    signalfern_pair_at_to(bytes, len, ordinal, &pair);
+    return pair;
+}
+
+/*
+ * The same in a column opened before, any column, as for signalfern_look_up_in. Refused: 10, 11, 15.
+ */
+void signalfern_pair_at_in_to(const signalfern_column *column, const uint8_t *bytes, size_t len,
+                              uint64_t ordinal, signalfern_pair *pair);
+
+static inline signalfern_pair signalfern_pair_at_in(signalfern_column column, const uint8_t *bytes, size_t len,
+                                                    uint64_t ordinal)
+{
+    signalfern_pair pair;
+    signalfern_pair_at_in_to(&column, bytes, len, ordinal, &pair);
+    return pair;
+}
+
+/*
  * Finds the first ordinal with a value from low to high, both included, in a column of edition 3. It goes
  * by the directory: a run whose smallest value is above high, or whose greatest is below low, is skipped
  * unread, and of any other the values are read in turn.
@@ -497,6 +589,38 @@ static inline signalfern_between signalfern_first_between_in(signalfern_column c
 {
     signalfern_between between;
     signalfern_first_between_in_to(&column, bytes, len, low, high, &between);
+    return between;
+}
+
+/*
+ * The same question above an answer: the first ordinal from `from` on with such a value. So the answer + 1,
+ * handed in as the next `from`, lists them all. None for an ordinal of n or more; from 0 it is
+ * signalfern_first_between. Refused as that is.
+ */
+void signalfern_first_between_from_to(const uint8_t *bytes, size_t len, uint64_t from, int64_t low,
+                                      int64_t high, signalfern_between *between);
+
+static inline signalfern_between signalfern_first_between_from(const uint8_t *bytes, size_t len, uint64_t from,
+                                                               int64_t low, int64_t high)
+{
+    signalfern_between between;
+    signalfern_first_between_from_to(bytes, len, from, low, high, &between);
+    return between;
+}
+
+/*
+ * The same in a column opened before, refused as signalfern_first_between_in.
+ */
+void signalfern_first_between_from_in_to(const signalfern_column *column, const uint8_t *bytes, size_t len,
+                                         uint64_t from, int64_t low, int64_t high,
+                                         signalfern_between *between);
+
+static inline signalfern_between signalfern_first_between_from_in(signalfern_column column,
+                                                                  const uint8_t *bytes, size_t len,
+                                                                  uint64_t from, int64_t low, int64_t high)
+{
+    signalfern_between between;
+    signalfern_first_between_from_in_to(&column, bytes, len, from, low, high, &between);
     return between;
 }
 

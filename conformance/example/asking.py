@@ -1,4 +1,5 @@
-"""Questions to a column: the look-up, the next candidate, the first value in a range, a correction on top."""
+"""Questions to a column: the look-up, the next candidate, pairs from an id on, the pair with an ordinal, the first value in a range, a correction on
+top."""
 
 from basics import BACK, BROKEN, BUFFER, EDITION, ID, MAX_BLOCK, MAX_ID, RUN, Refused, at_low
 from blocks import data_bytes, ones, rank_bytes, shorts
@@ -14,9 +15,7 @@ def head_at(column, b):
     if column.J > 0:
         entry = column.A + 8 * min(b, column.J - 1)
         o, s = at_low(column.ids, entry, 4), at_low(column.ids, entry + 4, 4)
-    if s + 4 > column.A:
-        raise Refused(BROKEN)
-    k, c = at_low(column.ids, s, 2), at_low(column.ids, s + 2, 2) + 1
+    k, c = head(column, s)
     if column.J > 0 and k < b:
         raise Refused(BROKEN)
     if k != b:
@@ -25,6 +24,13 @@ def head_at(column, b):
     if end > column.A or o + c > column.n:
         raise Refused(BROKEN)
     return column.ids[s + 4 : end], c, o
+
+
+def head(column, s):
+    """Step 2: the number and the count of the block at s."""
+    if s + 4 > column.A:
+        raise Refused(BROKEN)
+    return at_low(column.ids, s, 2), at_low(column.ids, s + 2, 2) + 1
 
 
 def halve(data, count, r):
@@ -154,20 +160,89 @@ def first_from(block, p, r):
     return place, dense_place(data, p, place)[0]
 
 
-def first_between(data, a, b, column=None):
+def first_between(data, a, b, column=None, start=0):
     if column and column.edition != 3:
         raise Refused(EDITION)
     column = column.hold_to_the_rules() if column else open_column(data, 3)
-    if a > b:
+    if a > b or start >= column.n:
         return None
-    for run in range(column.runs):
+    for run in range(start // RUN, column.runs):
         smallest, greatest, _, _ = column.summary(run)
         if smallest > b or greatest < a:
             continue
-        for i in range(RUN * run, min(RUN * (run + 1), column.n)):
+        for i in range(max(RUN * run, start), min(RUN * (run + 1), column.n)):
             if a <= column.value_at(i) <= b:
                 return i
     return None
+
+
+# ---- pairs from an id on, the pair with an ordinal
+
+
+def read_from(data, x, room, column=None):
+    """Ids and values, at most so many, and whether no listed id is left."""
+    found = next_candidate(data, 0, x, column)
+    ids, values = [], []
+    while found and len(ids) < room:
+        ids.append(found[0])
+        values.append(found[2])
+        if found[0] == MAX_ID:
+            return ids, values, True
+        try:
+            found = next_candidate(data, 0, found[0] + 1, column)
+        except Refused:
+            return ids, values, False
+    return ids, values, found is None
+
+
+def last_up_to(count, number, sought):
+    """By halving: the last of so many numbers that is at or below the one sought."""
+    lo, hi = 0, count
+    while lo + 1 < hi:
+        probe = (lo + hi) // 2
+        if number(probe) <= sought:
+            lo = probe
+        else:
+            hi = probe
+    return lo
+
+
+def pair_at(data, ordinal, column=None):
+    column = column.hold_to_the_rules() if column else open_column(data)
+    if ordinal >= column.n:
+        return None
+    e = s = 0
+    b = last_up_to(column.J, lambda j: at_low(column.ids, column.A + 8 * j, 4), ordinal)
+    if column.J > 0:
+        e, s = at_low(column.ids, column.A + 8 * b, 4), at_low(column.ids, column.A + 8 * b + 4, 4)
+    k, c = head(column, s)
+    if k > MAX_BLOCK or (column.J > 0 and k != b):
+        raise Refused(BROKEN)
+    end = s + 4 + data_bytes(c, column.p)
+    if end > column.A or e + c > column.n or not e <= ordinal < e + c:
+        raise Refused(BROKEN)
+    place = place_with(column.ids[s + 4 : end], c, column.p, ordinal - e)
+    return k * 65536 + place, ordinal, column.value_at(ordinal)
+
+
+def place_with(data, count, p, i):
+    """The place with index i in a block of so many ids."""
+    if count < 4096:
+        return at_low(data, 2 * i, 2)
+    if count == 65536:
+        return i
+    first, places, rank = 0, 65536, 0
+    if p > 0:
+        rank_of = lambda t: int.from_bytes(data[2 * t : 2 * t + 2], "big")
+        stride = last_up_to(2 ** (16 - p), rank_of, i)
+        first, places, rank = stride << p, 1 << p, rank_of(stride)
+    bitmap, others = data[rank_bytes(p) :], i - rank
+    for r in range(first, first + places):
+        if bitmap[r // 8] >> (r % 8) & 1:
+            if others == 0:
+                return r
+            others -= 1
+    raise Refused(BROKEN)
 
 
 # ---- a correction on top

@@ -9,7 +9,7 @@ import hashlib
 import json
 import sys
 
-from asking import first_between, layered_values, look_up, look_up_layered, look_up_page, next_candidate
+from asking import first_between, layered_values, look_up, look_up_layered, look_up_page, next_candidate, pair_at, read_from
 from basics import BUFFER, Faulty, Refused
 from judging import judge
 from opening import check, open_column, opened, read
@@ -117,8 +117,26 @@ def answer_next(g, column=None):
     return {"kind": "found", "id": found[0], "ordinal": found[1], "value": told(found[2]), "cursor": g["target"]}
 
 
+def answer_read_from(g, column=None):
+    rooms = g["ids_room"], g["values_room"]
+    try:
+        ids, values, ended = read_from(given_bytes(g["bytes"]), g["id"], min(rooms), column)
+    except Refused as refusal:
+        return refused(refusal, ids=list_told(lent(rooms[0])), values=list_told(lent(rooms[1])))
+    lists = list_told(lent(rooms[0], ids)), list_told(lent(rooms[1], values))
+    return {"kind": "ended" if ended else "more", "number": len(ids), "ids": lists[0], "values": lists[1]}
+
+
+def answer_pair_at(g, column=None):
+    found = pair_at(given_bytes(g["bytes"]), int(g["ordinal"]), column)
+    if found is None:
+        return {"kind": "none"}
+    return {"kind": "found", "id": found[0], "ordinal": found[1], "value": told(found[2])}
+
+
 def answer_between(g, column=None):
-    return ordinal(first_between(given_bytes(g["bytes"]), int(g["low"]), int(g["high"]), column), "none")
+    data, start = given_bytes(g["bytes"]), int(g.get("from", 0))
+    return ordinal(first_between(data, int(g["low"]), int(g["high"]), column, start), "none")
 
 
 def answer_part(g):
@@ -184,6 +202,12 @@ ANSWERS = {
     "next_in": lambda g: answer_next(g, column_in(g)),
     "first_between_in": lambda g: answer_between(g, column_in(g)),
     "look_up_layered_in": answer_layered_in,
+    "read_from": answer_read_from,
+    "pair_at": answer_pair_at,
+    "first_between_from": answer_between,
+    "read_from_in": lambda g: answer_read_from(g, column_in(g)),
+    "pair_at_in": lambda g: answer_pair_at(g, column_in(g)),
+    "first_between_from_in": lambda g: answer_between(g, column_in(g)),
 }
 
 

@@ -41,6 +41,38 @@ pub fn first_between(bytes: &[u8], low: i64, high: i64) -> Result<Option<u64>, R
     ordinal(ffi::first_between(bytes, low, high))
 }
 
+/// The same question above an answer: gives the first ordinal from `from` on with a value from `low` to
+/// `high`, or none; of a column of [`Edition::Runs`](crate::Edition::Runs).
+///
+/// From 0 on it is [`first_between`]. From an ordinal of n or more there is none. So the answer + 1, handed in
+/// as the next `from`, lists them all, and the runs that are skipped unread stay unread. For many questions to
+/// one column, open it once: [`Column::first_between_from`].
+///
+/// ```
+/// use signalfern::Edition;
+///
+/// let column = signalfern::write_to_vec(&[0, 2, 7], &[150, 140, 135], Edition::Runs, 9)?;
+/// let (mut from, mut found) = (0, Vec::new());
+/// while let Some(ordinal) = signalfern::first_between_from(&column, from, 130, 145)? {
+///     found.push(ordinal);
+///     from = ordinal + 1;
+/// }
+/// assert_eq!(found, [1, 2]);
+/// # Ok::<(), signalfern::Error>(())
+/// ```
+///
+/// # Errors
+///
+/// Those of [`first_between`].
+pub fn first_between_from(
+    bytes: &[u8],
+    from: u64,
+    low: i64,
+    high: i64,
+) -> Result<Option<u64>, Refusal> {
+    ordinal(ffi::first_between_from(bytes, from, low, high))
+}
+
 impl Column<'_> {
     /// Gives the first ordinal with a value from `low` to `high`, or none: the answer is that of
     /// [`first_between`](crate::first_between), sooner.
@@ -67,6 +99,33 @@ impl Column<'_> {
             high,
         ))
     }
+
+    /// Gives the first ordinal from `from` on with a value from `low` to `high`, or none: the answer is that
+    /// of [`first_between_from`](crate::first_between_from), sooner.
+    ///
+    /// ```
+    /// use signalfern::{Column, Edition};
+    ///
+    /// let bytes = signalfern::write_to_vec(&[3, 70_000], &[-5, 10], Edition::Runs, 9)?;
+    /// let column = Column::open(&bytes)?;
+    /// assert_eq!(column.first_between_from(0, -9, 99)?, Some(0));
+    /// assert_eq!(column.first_between_from(1, -9, 99)?, Some(1));
+    /// assert_eq!(column.first_between_from(2, -9, 99)?, None);
+    /// # Ok::<(), signalfern::Error>(())
+    /// ```
+    ///
+    /// # Errors
+    ///
+    /// Those of [`first_between`](Self::first_between).
+    pub fn first_between_from(
+        &self,
+        from: u64,
+        low: i64,
+        high: i64,
+    ) -> Result<Option<u64>, Refusal> {
+        let given = ffi::first_between_from_in(&self.numbers, self.bytes(), from, low, high);
+        ordinal(given)
+    }
 }
 
 impl Header {
@@ -85,5 +144,23 @@ impl Header {
         high: i64,
     ) -> Result<Option<u64>, Refusal> {
         ordinal(ffi::first_between_in(&self.numbers(), bytes, low, high))
+    }
+
+    /// Gives the first ordinal from `from` on with a value from `low` to `high`, or none, in bytes that are
+    /// lent for this call, taking these numbers for their header's. For the header of the same bytes, opened,
+    /// the answer is that of [`first_between_from`](crate::first_between_from).
+    ///
+    /// # Errors
+    ///
+    /// Those of [`first_between_in`](Self::first_between_in).
+    pub fn first_between_from_in(
+        &self,
+        bytes: &[u8],
+        from: u64,
+        low: i64,
+        high: i64,
+    ) -> Result<Option<u64>, Refusal> {
+        let given = ffi::first_between_from_in(&self.numbers(), bytes, from, low, high);
+        ordinal(given)
     }
 }

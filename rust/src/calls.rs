@@ -306,7 +306,7 @@ pub fn read(bytes: &[u8], ids: &mut [u32], values: &mut [i64]) -> Result<usize, 
 ///
 /// [`Error::Refused`] with those of [`check`]; [`Error::Memory`]. A system that grants more memory
 /// than it has may end the program later, when it is used: see [`Checked`](crate::Checked) for a
-/// walk that needs none.
+/// walk in bounded memory.
 pub fn read_to_vecs(bytes: &[u8]) -> Result<(Vec<u32>, Vec<i64>), Error> {
     let count = len(ffi::check(bytes))?;
     let (mut ids, mut values) = (places(count)?, places(count)?);

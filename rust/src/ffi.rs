@@ -70,6 +70,24 @@ pub(crate) struct Candidate {
 
 #[repr(C)]
 #[derive(Clone, Copy)]
+pub(crate) struct Readout {
+    pub kind: u64,
+    pub number: u64,
+    pub count: u64,
+}
+
+#[repr(C)]
+#[derive(Clone, Copy)]
+pub(crate) struct Pair {
+    pub kind: u64,
+    pub number: u64,
+    pub id: u64,
+    pub ordinal: u64,
+    pub value: i64,
+}
+
+#[repr(C)]
+#[derive(Clone, Copy)]
 pub(crate) struct Between {
     pub kind: u64,
     pub number: u64,
@@ -191,6 +209,35 @@ extern "C" {
         target: u32,
         candidate: *mut Candidate,
     );
+    fn signalfern_read_from_to(
+        bytes: *const u8,
+        len: usize,
+        id: u32,
+        ids: *mut u32,
+        ids_len: usize,
+        values: *mut i64,
+        values_len: usize,
+        readout: *mut Readout,
+    );
+    fn signalfern_read_from_in_to(
+        column: *const Column,
+        bytes: *const u8,
+        len: usize,
+        id: u32,
+        ids: *mut u32,
+        ids_len: usize,
+        values: *mut i64,
+        values_len: usize,
+        readout: *mut Readout,
+    );
+    fn signalfern_pair_at_to(bytes: *const u8, len: usize, ordinal: u64, pair: *mut Pair);
+    fn signalfern_pair_at_in_to(
+        column: *const Column,
+        bytes: *const u8,
+        len: usize,
+        ordinal: u64,
+        pair: *mut Pair,
+    );
     fn signalfern_first_between_to(
         bytes: *const u8,
         len: usize,
@@ -202,6 +249,23 @@ extern "C" {
         column: *const Column,
         bytes: *const u8,
         len: usize,
+        low: i64,
+        high: i64,
+        between: *mut Between,
+    );
+    fn signalfern_first_between_from_to(
+        bytes: *const u8,
+        len: usize,
+        from: u64,
+        low: i64,
+        high: i64,
+        between: *mut Between,
+    );
+    fn signalfern_first_between_from_in_to(
+        column: *const Column,
+        bytes: *const u8,
+        len: usize,
+        from: u64,
         low: i64,
         high: i64,
         between: *mut Between,
@@ -413,6 +477,62 @@ pub(crate) fn next_in(column: &Column, cursor: Cursor, bytes: &[u8], target: u32
     }
 }
 
+pub(crate) fn read_from(bytes: &[u8], id: u32, ids: &mut [u32], values: &mut [i64]) -> Readout {
+    // SAFETY: three slices with their own lengths; `ids` and `values` are borrowed for this call
+    // alone.
+    unsafe {
+        told(|answer| {
+            signalfern_read_from_to(
+                bytes.as_ptr(),
+                bytes.len(),
+                id,
+                ids.as_mut_ptr(),
+                ids.len(),
+                values.as_mut_ptr(),
+                values.len(),
+                answer,
+            );
+        })
+    }
+}
+
+pub(crate) fn read_from_in(
+    column: &Column,
+    bytes: &[u8],
+    id: u32,
+    ids: &mut [u32],
+    values: &mut [i64],
+) -> Readout {
+    // SAFETY: three slices with their own lengths; `ids` and `values` are borrowed for this call
+    // alone; the call takes any column.
+    unsafe {
+        told(|answer| {
+            signalfern_read_from_in_to(
+                column,
+                bytes.as_ptr(),
+                bytes.len(),
+                id,
+                ids.as_mut_ptr(),
+                ids.len(),
+                values.as_mut_ptr(),
+                values.len(),
+                answer,
+            );
+        })
+    }
+}
+
+pub(crate) fn pair_at(bytes: &[u8], ordinal: u64) -> Pair {
+    // SAFETY: a slice with its own length, only read.
+    unsafe { told(|answer| signalfern_pair_at_to(bytes.as_ptr(), bytes.len(), ordinal, answer)) }
+}
+
+pub(crate) fn pair_at_in(column: &Column, bytes: &[u8], ordinal: u64) -> Pair {
+    let (start, len) = (bytes.as_ptr(), bytes.len());
+    // SAFETY: a slice with its own length, only read; the call takes any column.
+    unsafe { told(|answer| signalfern_pair_at_in_to(column, start, len, ordinal, answer)) }
+}
+
 pub(crate) fn first_between(bytes: &[u8], low: i64, high: i64) -> Between {
     // SAFETY: a slice with its own length, only read.
     unsafe {
@@ -425,6 +545,28 @@ pub(crate) fn first_between_in(column: &Column, bytes: &[u8], low: i64, high: i6
     unsafe {
         told(|answer| {
             signalfern_first_between_in_to(column, bytes.as_ptr(), bytes.len(), low, high, answer)
+        })
+    }
+}
+
+pub(crate) fn first_between_from(bytes: &[u8], from: u64, low: i64, high: i64) -> Between {
+    let (start, len) = (bytes.as_ptr(), bytes.len());
+    // SAFETY: a slice with its own length, only read.
+    unsafe { told(|answer| signalfern_first_between_from_to(start, len, from, low, high, answer)) }
+}
+
+pub(crate) fn first_between_from_in(
+    column: &Column,
+    bytes: &[u8],
+    from: u64,
+    low: i64,
+    high: i64,
+) -> Between {
+    let (start, len) = (bytes.as_ptr(), bytes.len());
+    // SAFETY: a slice with its own length, only read; the call takes any column.
+    unsafe {
+        told(|answer| {
+            signalfern_first_between_from_in_to(column, start, len, from, low, high, answer)
         })
     }
 }

@@ -1,14 +1,16 @@
 //! Score columns: byte strings that hold pairs of an id and a signed 64-bit value, with the ids
 //! strictly ascending.
 //!
-//! There are twelve calls on columns: [`write()`] a column, or by a plan ([`write_planned`]), which a
+//! There are fifteen calls on columns: [`write()`] a column, or by a plan ([`write_planned`]), which a
 //! planner proposes ([`plan()`]), [`check`] one, [`read`] it whole, [`look_up`] one id or a page of them
-//! ([`look_up_page`]), find the [`next()`] listed one, find the first value in a range ([`first_between`]),
-//! look an id up in a column with a correction on top ([`look_up_layered`]) and show the bytes that hold it
-//! ([`layered_values`]), and [`Column::open`] for many such questions to the same columns. Each is a thin
-//! wrapper of a call that is written and proved in Rattle: its answer, its refusal and every lent byte
-//! afterwards are those that document 01 ("Full scope and exact rules") and the requests of document 02
-//! fix, on every input.
+//! ([`look_up_page`]), find the [`next()`] listed one, read the pairs from an id on
+//! ([`read_from`](read_from())), give the pair with an ordinal ([`pair_at`](pair_at())), find the first value
+//! in a range ([`first_between`]), from an ordinal on too ([`first_between_from`]), look an id up in a column
+//! with a correction on top ([`look_up_layered`]) and show the bytes that hold it ([`layered_values`]), and
+//! [`Column::open`] for many such questions to the same columns. Each is a thin wrapper of a call that is
+//! written and proved in Rattle: its answer, its refusal and every lent byte afterwards are those that
+//! document 01 ("Full scope and exact rules"), the requests of document 02 and what was added to them fix, on
+//! every input.
 //! This wrapper, the C boundary below it and the compiler's back end are not proved; they are tested.
 //!
 //! Most programs want [`Checked`]: a column that was checked once, as a sorted map from ids to
@@ -61,14 +63,15 @@ mod ffi;
 mod layered;
 mod next;
 mod page;
+mod pair_at;
 mod pairs;
 mod plan;
+mod read_from;
 mod refusal;
 mod section;
 mod set;
-mod values;
 
-pub use between::first_between;
+pub use between::{first_between, first_between_from};
 pub use calls::{check, look_up, read, read_to_vecs, write, write_pairs, write_to_vec, Answer};
 pub use checked::Checked;
 pub use column::{Column, Header};
@@ -77,8 +80,10 @@ pub use error::Error;
 pub use layered::{layered_values, look_up_layered, Layer, Layered, LayeredAnswer, LayeredRefusal};
 pub use next::{next, Candidate, Candidates, Cursor};
 pub use page::{look_up_page, look_up_page_to_vec, Page, PageAnswer};
+pub use pair_at::pair_at;
 pub use pairs::Pairs;
 pub use plan::{plan, plan_to_vec, write_planned, write_planned_to_vec};
+pub use read_from::{read_from, Readout};
 pub use refusal::Refusal;
 pub use section::{ByteOrder, Fault, Reason, Section};
 pub use set::{set_check, set_find, set_write, set_write_to_vec, Set};

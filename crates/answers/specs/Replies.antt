@@ -1,5 +1,5 @@
 -- The paper's numbers and values for each case of the library's enums. Assumes nothing.
-use Rattle.format.specs.Kit.{ℕ, _≡_, Option, none, some, ℤ}
+use Rattle.format.specs.Kit.{ℕ, _≡_, Bool, true, false, Option, none, some, ℤ}
 use Rattle.format.specs.Codec.{Fields}
 use Rattle.format.specs.Refusals.{Outcome, done, refused, LENGTHS, POWER, ORDER, RANGE, ROOM}
 use Rattle.format.specs.Refusals.{SHORT, NUMBER, EDITION, HEADER, LENGTH, BUFFER, DAMAGED, ID, BROKEN, BACK, PLAN}
@@ -12,6 +12,7 @@ use Rattle.answers.specs.declared.Refusal as Re
 use Rattle.answers.specs.declared.Reply as Rp
 use Rattle.answers.specs.declared.Answer as An
 use Rattle.answers.specs.declared.Candidate as Ca
+use Rattle.answers.specs.declared.Readout as Ro
 use Rattle.answers.specs.declared.Member as Me
 use Rattle.answers.specs.declared.ByteOrder as By
 use Rattle.answers.specs.declared.Reason as Rs
@@ -80,6 +81,12 @@ abbrev pub candidateOf : Ca.Candidate → Outcome Candidate
 candidateOf (Ca.Candidate.Found id o v) = done (candidateAt id o v)
 candidateOf Ca.Candidate.Nothing = done noCandidate
 candidateOf (Ca.Candidate.Refused why) = refusedAs why
+
+-- how many pairs, and whether no listed id is left
+abbrev pub readoutOf : Ro.Readout → Outcome (ℕ × Bool)
+readoutOf (Ro.Readout.More n) = done (n, false)
+readoutOf (Ro.Readout.Ended n) = done (n, true)
+readoutOf (Ro.Readout.Refused why) = refusedAs why
 
 abbrev pub memberOf : Me.Member → Outcome Sc.Member
 memberOf (Me.Member.Found o) = done (Sc.memberAt o)

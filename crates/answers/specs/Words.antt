@@ -1,6 +1,6 @@
 -- The words in which a column and each call's answer cross the C boundary: include/signalfern.h names the same words. Those that a case
 -- leaves free are 0, and a value is in two's complement. Assumes nothing.
-use Rattle.format.specs.Kit.{ℕ, _+_, cond, eqb, List, [], _∷_, getD, Option, none, some}
+use Rattle.format.specs.Kit.{ℕ, _+_, Bool, cond, eqb, List, [], _∷_, getD, Option, none, some}
 use Rattle.format.specs.Limits.{maxWidth}
 use Rattle.format.specs.Bytes.{twos}
 use Rattle.format.specs.Refusals.{Outcome, done, refused}
@@ -74,6 +74,17 @@ abbrev pub candidateWords : Outcome Candidate → ℕ → List ℕ
 candidateWords (done (candidateAt id o v)) last = 0 ∷ 0 ∷ id ∷ o ∷ twos v ∷ last ∷ []
 candidateWords (done noCandidate) last = 1 ∷ 0 ∷ 0 ∷ 0 ∷ 0 ∷ last ∷ []
 candidateWords (refused why w) last = why ∷ w ∷ 0 ∷ 0 ∷ 0 ∷ last ∷ []
+
+-- a pair: kind 0 found, 1 none, otherwise the refusal's number
+abbrev pub pairWords : Outcome Candidate → List ℕ
+pairWords (done (candidateAt id o v)) = 0 ∷ 0 ∷ id ∷ o ∷ twos v ∷ []
+pairWords (done noCandidate) = 1 ∷ 0 ∷ 0 ∷ 0 ∷ 0 ∷ []
+pairWords (refused why w) = why ∷ w ∷ 0 ∷ 0 ∷ 0 ∷ []
+
+-- pairs from an id on: kind 0 more, 1 none left, otherwise the refusal's number; and how many there are
+abbrev pub readoutWords : Outcome (ℕ × Bool) → List ℕ
+readoutWords (done x) = cond (x .1) 1 0 ∷ 0 ∷ x .0 ∷ []
+readoutWords (refused why w) = why ∷ w ∷ 0 ∷ []
 
 -- from this cursor, for this target
 abbrev pub nextWords : Outcome Candidate → ℕ → ℕ → List ℕ

@@ -78,6 +78,13 @@ pub struct Next {
     pub candidate: Candidate,
 }
 
+// Pairs from an id on: so many, above which more are listed (or a step fails); so many, and no listed id is left; or a refusal.
+pub enum Readout {
+    More(u64),
+    Ended(u64),
+    Refused(Refusal),
+}
+
 // The first ordinal with a value in a range, none, or a refusal (document 02, [11]).
 pub enum Between {
     Found(u64),

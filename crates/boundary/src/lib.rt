@@ -1,7 +1,7 @@
 // What C sees: the words of each answer of the library, put where C wants them, and C's columns and numbers as the library's. C's structs
 // are these words with names (include/signalfern.h), and an array that is lent is a plain pointer on every processor. The calls stand in
 // crate signalfern_c, the words of a look-up's answer in `lookup::apart`. Those of two columns are in layers.rt, of a page of ids in pages.rt,
-// of a range of values in ranges.rt, of a bare id section in sections.rt, of sets in sets.rt.
+// of pairs in pairs.rt, of a range of values in ranges.rt, of a bare id section in sections.rt, of sets in sets.rt.
 ghost use mathlib.Core.Path.{_≡_};
 ghost use Rattle.answers.specs.Replies.{replyOf, candidateOf};
 ghost use Rattle.answers.specs.Words.{replyWords, columnWords, openedIn, candidateWords};
@@ -19,6 +19,7 @@ use values::Edition;
 
 pub mod layers;
 pub mod pages;
+pub mod pairs;
 pub mod ranges;
 pub mod sections;
 pub mod sets;

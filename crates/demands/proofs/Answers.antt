@@ -1,5 +1,5 @@
 -- Each call that asks answers by the bytes' list; and its words and probes on any bytes. Assumes nothing.
-use Rattle.format.specs.Kit.{_≡_, refl, sym, ap, ap₂, _∙_, subst, List, [], _∷_, map, ℕ, _≤_, _-_, arith, ℤ, length, pow-pos}
+use Rattle.format.specs.Kit.{_≡_, refl, sym, ap, ap₂, _∙_, subst, List, [], _∷_, map, ℕ, _≤_, _-_, min, arith, ℤ, length, drop, pow-pos}
 use Rattle.format.specs.Kit.{leb, leb-true, eq-eqb, ne-eqb}
 use Rattle.format.specs.Limits.{maxId}
 use Rattle.format.specs.Refusals.{Outcome, done, refused, andThen, need, EDITION}
@@ -13,6 +13,9 @@ use Rattle.format.specs.Page.{placeKind, placeOrdinal, placeValue, placeWords, 
 use Rattle.format.specs.Next as Nx
 use Rattle.format.specs.Next.{next, nextIn, lastAfter, listNext}
 use Rattle.format.specs.FirstBetween.{firstIn, firstBetween}
+use Rattle.format.specs.BetweenFrom.{firstBetweenFrom}
+use Rattle.format.specs.ReadFrom.{Readout, readFrom, readoutReply, readoutAfter, listReadFrom}
+use Rattle.format.specs.PairAt.{pairAt, listPair}
 use Rattle.format.specs.SetBytes.{setBytes}
 use Rattle.format.specs.SetCalls.{setFind, asMember}
 use Rattle.laws.proofs.Cases.{true-or}
@@ -25,18 +28,22 @@ use Rattle.laws.proofs.Paged.{enough}
 use Rattle.laws.proofs.Sequences.{accepted-next}
 use Rattle.laws.proofs.InTurn.{opened-next}
 use Rattle.laws.proofs.FirstBetween.{accepted-between, other-between}
+use Rattle.laws.proofs.BetweenFrom.{accepted-between-from, other-between-from}
+use Rattle.laws.proofs.ReadFrom.{accepted-read-from}
+use Rattle.laws.proofs.PairAt.{accepted-pair-at}
 use Rattle.laws.proofs.Layered as Ld
 use Rattle.laws.proofs.Demands.{opened-look-up}
 use Rattle.format.specs.Lists.{SetOf}
 use Rattle.set_format.proofs.Demands.{alike}
-use Rattle.answers.specs.Replies.{replyOf, answerOf, candidateOf, Probed}
+use Rattle.answers.specs.Replies.{replyOf, answerOf, candidateOf, readoutOf, Probed}
 use Rattle.answers.specs.declared.Reply.{Reply}
 use Rattle.answers.specs.declared.Answer as An
 use Rattle.answers.specs.declared.Answer.{Answer}
 use Rattle.answers.specs.declared.Next.{Next}
+use Rattle.answers.specs.declared.Readout as Ro
 use Rattle.layered.specs.Answers.{layeredOf}
 use Rattle.layered.specs.declared.Layered.{Layered}
-use Rattle.demands.specs.Terms.{Holds, pairsOf, WordsBound, FewProbes, Answers, LayeredAnswers, asked, PageAnswers, NextAnswers}
+use Rattle.demands.specs.Terms.{Holds, pairsOf, WordsBound, FewProbes, Answers, LayeredAnswers, asked, PageAnswers, NextAnswers, ReadFromAnswers}
 use Rattle.demands.proofs.Lists.{as-read}
 
 -- ---- words and probes, on any bytes
@@ -181,6 +188,28 @@ next-answers bytes last t a o e kept after n x =
 pub next-in-is : (bytes : List ℕ) (c : Opened) (last t : ℕ) → openColumn editions bytes ≡ done c → nextIn bytes c last t ≡ next editions bytes last t
 next-in-is bytes c last t o = opened-next bytes c last t editions o
 
+-- ---- pairs from an id on, and by ordinal
+
+module _ (bytes : List ℕ) (t : ℕ) (is is′ : List ℕ) (xs xs′ : List ℤ) (r : Ro.Readout)
+    (kept : readoutOf r ≡ readoutReply (readFrom editions bytes t (min (length is) (length xs))))
+    (ki : is′ ≡ readoutAfter (λ w. w .ids) (readFrom editions bytes t (min (length is) (length xs))) is)
+    (kx : xs′ ≡ readoutAfter (λ w. w .values) (readFrom editions bytes t (min (length is) (length xs))) xs) where
+  pub read-from-answers : (n : ℕ) (x : Holds bytes n) → ReadFromAnswers x t is is′ xs xs′ r
+  read-from-answers n x =
+      let s = as-read bytes n x in
+      let e =
+      accepted-read-from editions (lawful-reader editions) bytes (s .opened) (s .pairs) (s .is-opened) (s .is-accepted) t (min (length is) (length xs)) in
+      record {
+        reply = kept ∙ ap readoutReply e;
+        ids = ki ∙ ap (λ (o : Outcome Readout). readoutAfter (λ w. w .ids) o is) e;
+        values = kx ∙ ap (λ (o : Outcome Readout). readoutAfter (λ w. w .values) o xs) e;
+      }
+
+pub pair-is : (bytes : List ℕ) (n : ℕ) (x : Holds bytes n) (i : ℕ) → pairAt editions bytes i ≡ done (listPair (pairsOf x) i)
+pair-is bytes n x =
+    let s = as-read bytes n x in
+    accepted-pair-at editions (lawful-reader editions) bytes (s .opened) (s .pairs) (s .is-opened) (s .is-accepted)
+
 -- ---- a range of values
 
 module _ (bytes : List ℕ) (n : ℕ) (x : Holds bytes n) (a b : ℤ) where
@@ -191,6 +220,15 @@ module _ (bytes : List ℕ) (n : ℕ) (x : Holds bytes n) (a b : ℤ) where
   pub between-others : (x .edition ≡ runs → ⊥) → firstBetween bytes a b ≡ refused EDITION 0
   unfolding the-column headOf the-head
   between-others e = let s = as-read bytes n x in other-between editions bytes (s .opened) (s .is-opened) e a b
+
+  module _ (i : ℕ) where
+    pub from-scans : x .edition ≡ runs → firstBetweenFrom bytes i a b ≡ done (firstIn a b i (drop i (x .values)))
+    unfolding the-column headOf the-head
+    from-scans e = let s = as-read bytes n x in accepted-between-from editions bytes (s .opened) i a b (s .is-opened) (s .pairs) (s .is-accepted) e
+
+    pub from-others : (x .edition ≡ runs → ⊥) → firstBetweenFrom bytes i a b ≡ refused EDITION 0
+    unfolding the-column headOf the-head
+    from-others e = let s = as-read bytes n x in other-between-from editions bytes (s .opened) i a b (s .is-opened) e
 
 -- ---- a set of the same ids
 

@@ -8,11 +8,13 @@ use Rattle.format.specs.Writer.{writeReply, writeOut}
 use Rattle.format.specs.Check.{readReply, idsAfter, valuesAfter}
 use Rattle.format.specs.LookUp.{Look}
 use Rattle.format.specs.Page.{placeKind, placeOrdinal, placeValue, pageReply, pageAfter}
+use Rattle.format.specs.ReadFrom.{Readout, readoutReply, readoutAfter}
 use Rattle.format.specs.Faults.{BrokenAt, EndsAt}
-use Rattle.answers.specs.Replies.{replyOf}
+use Rattle.answers.specs.Replies.{replyOf, readoutOf}
 use Rattle.answers.specs.declared.Refusal.{Refusal}
 use Rattle.answers.specs.declared.Reply as Rp
 use Rattle.answers.specs.declared.Reply.{Reply}
+use Rattle.answers.specs.declared.Readout as Ro
 use Rattle.demands.specs.Terms.{Writes, HeaderTold, ComesBack}
 
 -- ---- done or refused
@@ -110,6 +112,25 @@ page-kept o os os′ vs vs′ ks ks′ r k ko kv kk why w e =
       kv ∙ ap (λ (o : Outcome (List (Outcome Look))). pageAfter placeValue o vs) f,
       kk ∙ ap (λ (o : Outcome (List (Outcome Look))). pageAfter placeKind o ks) f,
     )
+
+-- ---- pairs from an id on
+
+pub readout-refused : (o : Outcome Readout) (why w : ℕ) → readoutReply o ≡ refused why w → o ≡ refused why w
+unfolding readoutReply
+readout-refused (done q) why w e = absurd (let z : _≡_ {A = ℕ} 0 1 = cc in omega arith)
+readout-refused (refused x y) why w e = cc
+
+pub readout-kept : (o : Outcome Readout) (is is′ : List ℕ) (xs xs′ : List ℤ) (r : Ro.Readout) → readoutOf r ≡ readoutReply o
+    → is′ ≡ readoutAfter (λ w. w .ids) o is → xs′ ≡ readoutAfter (λ w. w .values) o xs
+    → (why w : ℕ) → readoutOf r ≡ refused why w → (is′ ≡ is) × (xs′ ≡ xs)
+unfolding readoutAfter
+readout-kept o is is′ xs xs′ r k ki kx why w e =
+    let f = readout-refused o why w (sym k ∙ e) in
+    (ki ∙ ap (λ (o : Outcome Readout). readoutAfter (λ p. p .ids) o is) f, kx ∙ ap (λ (o : Outcome Readout). readoutAfter (λ p. p .values) o xs) f)
+
+pub readout-told : {P : Type 0} (o : Outcome Readout) (why w : ℕ) → (o ≡ refused why w) ↔ P → (readoutReply o ≡ refused why w) ↔ P
+unfolding readoutReply
+readout-told o why w h = (λ e. h .0 (readout-refused o why w e), λ p. ap readoutReply (h .1 p))
 
 -- ---- where the header broke (document 02, [4])
 

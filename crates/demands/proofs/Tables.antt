@@ -2,7 +2,7 @@
 use Rattle.format.specs.Kit.{_≡_, refl, sym, ap, _∙_, subst, List, [], _∷_, Option, none, some, ℕ, zero, suc, _≤_, arith, ℤ, leb, eqb, leb-true}
 use Rattle.format.specs.Kit.{leb-false, drop, eqb-true, eqb-false}
 use Rattle.format.specs.Limits.{maxId}
-use Rattle.format.specs.Refusals.{Outcome, done, refused, andThen, need, given, SHORT, NUMBER, HEADER, LENGTH, DAMAGED}
+use Rattle.format.specs.Refusals.{Outcome, done, refused, andThen, need, given, SHORT, NUMBER, EDITION, HEADER, LENGTH, DAMAGED}
 use Rattle.format.specs.HeaderNumbers.{Got, got, short, bad, readNumber, gotAt, numberAt, numbersAt}
 use Rattle.format.specs.Pairs.{Below}
 use Rattle.format.specs.Editions.{Edition, runs, numberOf, editions, editionIn, among}
@@ -10,6 +10,9 @@ use Rattle.format.specs.Opening.{Opened, headFrom, headOk, lengthOk, openColumn
 use Rattle.format.specs.LookUp.{Look, found, absent, halved, steps, lookUp, lookUpIn}
 use Rattle.format.specs.Next.{nextSteps, nextIn}
 use Rattle.format.specs.FirstBetween.{betweenSteps, firstBetween, firstBetweenIn}
+use Rattle.format.specs.BetweenFrom.{betweenStepsFrom, firstBetweenFrom, firstBetweenFromIn}
+use Rattle.format.specs.ReadFrom.{readSteps, readFromIn}
+use Rattle.format.specs.PairAt.{pairSteps, pairAtIn}
 use Rattle.format.specs.Layered.{LayeredLook, foundIn, absentIn, refusedBy, onTop, underneath, lookUpLayered, lookUpLayeredIn, layeredPart}
 use Rattle.format.specs.SetCalls.{setCheck, setFind}
 use Rattle.laws.proofs.Cases.{true-or, false-true}
@@ -20,8 +23,8 @@ use Rattle.set_format.proofs.Demands.{accepts-sets, checked-finds, refused-alik
 use Rattle.laws.proofs.PassedOn.{number-exactly, short-exactly}
 use Rattle.laws.proofs.RefusalNumbers.{set-check-refusals}
 use Rattle.set_format.proofs.Faults.{check-number, check-short, check-damaged}
-use Rattle.demands.specs.Tables.{InSays, LookInSays, NextInSays, BetweenInSays, BetweenSays, LayeredSays, PartSays, SetCheckSays}
-use Rattle.demands.specs.Tables.{SetFindSays}
+use Rattle.demands.specs.Tables.{InSays, LookInSays, NextInSays, ReadFromInSays, PairAtInSays, RangeInSays, BetweenInSays, BetweenFromInSays}
+use Rattle.demands.specs.Tables.{RangeSays, BetweenSays, BetweenFromSays, LayeredSays, PartSays, SetCheckSays, SetFindSays}
 
 -- ---- from an opened column
 
@@ -51,23 +54,51 @@ module _ (bytes : List ℕ) (c : Opened) where
       (λ l. NextInSays.going-back (leb-true t maxId h) (leb-false last t l) (rw (h, l) refl)))
       (λ h. NextInSays.above-limit (leb-false t maxId h) (rw h refl))
 
-  pub between-in-says : (a b : ℤ) → BetweenInSays bytes c a b (firstBetweenIn bytes c a b)
-  unfolding firstBetweenIn need
-  between-in-says a b =
+  pub read-from-in-says : (t room : ℕ) → ReadFromInSays bytes c t room (readFromIn bytes c t room)
+  unfolding readFromIn need
+  read-from-in-says t room =
+      true-or (leb t maxId)
+      (λ h. ReadFromInSays.within (leb-true t maxId h) (in-says bytes c (readSteps bytes c t room) _ (rw h refl)))
+      (λ h. ReadFromInSays.above-limit (leb-false t maxId h) (rw h refl))
+
+  pub pair-at-in-says : (i : ℕ) → PairAtInSays bytes c i (pairAtIn bytes c i)
+  unfolding pairAtIn
+  pair-at-in-says i = in-says bytes c (pairSteps bytes c i) _ refl
+
+  range-in-says : (further o : Outcome (Option ℕ))
+      → o ≡ need (eqb (numberOf (c .head .edition)) (numberOf runs)) EDITION 0 (need (headOk (c .head)) HEADER 0 (need (lengthOk bytes c) LENGTH 0 further))
+      → RangeInSays bytes c further o
+  unfolding need
+  range-in-says further o e =
       true-or (eqb (numberOf (c .head .edition)) (numberOf runs))
-      (λ h.
-      BetweenInSays.in-runs (one-number (c .head .edition) runs (eqb-true _ _ h)) (in-says bytes c (betweenSteps bytes c a b) _ (rw h refl)))
-      (λ h. BetweenInSays.other-edition (λ z. eqb-false _ _ h (ap numberOf z)) (rw h refl))
+      (λ h. RangeInSays.in-runs (one-number (c .head .edition) runs (eqb-true _ _ h)) (in-says bytes c further _ (e ∙ rw h refl)))
+      (λ h. RangeInSays.other-edition (λ z. eqb-false _ _ h (ap numberOf z)) (e ∙ rw h refl))
+
+  pub between-in-says : (a b : ℤ) → BetweenInSays bytes c a b (firstBetweenIn bytes c a b)
+  unfolding firstBetweenIn
+  between-in-says a b = range-in-says (betweenSteps bytes c a b) _ refl
+
+  pub between-from-in-says : (i : ℕ) (a b : ℤ) → BetweenFromInSays bytes c i a b (firstBetweenFromIn bytes c i a b)
+  unfolding firstBetweenFromIn
+  between-from-in-says i a b = range-in-says (betweenStepsFrom bytes c i a b) _ refl
 
 -- ---- a range of values
 
-pub between-says : (bytes : List ℕ) (a b : ℤ) → BetweenSays bytes a b (firstBetween bytes a b)
-unfolding firstBetween andThen
-between-says bytes a b = go (openColumn (runs ∷ []) bytes) refl
+range-says : (bytes : List ℕ) (further : Opened → Outcome (Option ℕ)) → RangeSays bytes further (andThen (openColumn (runs ∷ []) bytes) further)
+unfolding andThen
+range-says bytes further = go (openColumn (runs ∷ []) bytes) refl
   where
-    go : (o : Outcome Opened) → openColumn (runs ∷ []) bytes ≡ o → BetweenSays bytes a b (firstBetween bytes a b)
-    go (done c) e = BetweenSays.by-runs c e (rw e refl)
-    go (refused why w) e = BetweenSays.not-opened why w e (rw e refl)
+    go : (o : Outcome Opened) → openColumn (runs ∷ []) bytes ≡ o → RangeSays bytes further (andThen (openColumn (runs ∷ []) bytes) further)
+    go (done c) e = RangeSays.by-runs c e (rw e refl)
+    go (refused why w) e = RangeSays.not-opened why w e (rw e refl)
+
+pub between-says : (bytes : List ℕ) (a b : ℤ) → BetweenSays bytes a b (firstBetween bytes a b)
+unfolding firstBetween
+between-says bytes a b = range-says bytes (λ c. betweenSteps bytes c a b)
+
+pub between-from-says : (bytes : List ℕ) (i : ℕ) (a b : ℤ) → BetweenFromSays bytes i a b (firstBetweenFrom bytes i a b)
+unfolding firstBetweenFrom
+between-from-says bytes i a b = range-says bytes (λ c. betweenStepsFrom bytes c i a b)
 
 -- ---- a correction on top
 

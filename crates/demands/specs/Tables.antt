@@ -10,6 +10,9 @@ use Rattle.format.specs.Opening.{Opened, headFrom, headOk, lengthOk, openColumn
 use Rattle.format.specs.LookUp.{Look, found, absent, halved, steps}
 use Rattle.format.specs.Next.{Candidate, nextSteps}
 use Rattle.format.specs.FirstBetween.{betweenSteps}
+use Rattle.format.specs.BetweenFrom.{betweenStepsFrom}
+use Rattle.format.specs.ReadFrom.{Readout, readSteps}
+use Rattle.format.specs.PairAt.{pairSteps}
 use Rattle.format.specs.Layered.{Layer, machine, correction, ofLayer, LayeredLook, foundIn, absentIn, refusedBy, Part, part, noPart}
 use Rattle.format.specs.SetCalls.{Member, memberIn}
 use Rattle.format.specs.Lists.{SetOf}
@@ -33,16 +36,38 @@ pub data NextInSays (bytes : List ℕ) (c : Opened) (last t : ℕ) (o : Outcome 
   going-back : t ≤ maxId → t < last → o ≡ refused BACK 0 → NextInSays bytes c last t o
   onward : t ≤ maxId → last ≤ t → InSays bytes c (nextSteps bytes c t) o → NextInSays bytes c last t o
 
--- the first value in a range: EDITION for any but edition 3
-pub data BetweenInSays (bytes : List ℕ) (c : Opened) (a b : ℤ) (o : Outcome (Option ℕ)) : Type 0 where
-  other-edition : (c .head .edition ≡ runs → ⊥) → o ≡ refused EDITION 0 → BetweenInSays bytes c a b o
-  in-runs : c .head .edition ≡ runs → InSays bytes c (betweenSteps bytes c a b) o → BetweenInSays bytes c a b o
+-- pairs from an id on: ID first; then the first candidate decides, and so on in turn
+pub data ReadFromInSays (bytes : List ℕ) (c : Opened) (t room : ℕ) (o : Outcome Readout) : Type 0 where
+  above-limit : maxId < t → o ≡ refused ID 0 → ReadFromInSays bytes c t room o
+  within : t ≤ maxId → InSays bytes c (readSteps bytes c t room) o → ReadFromInSays bytes c t room o
+
+-- the pair with an ordinal
+abbrev pub PairAtInSays : List ℕ → Opened → ℕ → Outcome Candidate → Type 0
+PairAtInSays bytes c i o = InSays bytes c (pairSteps bytes c i) o
+
+-- the first value in a range, by these steps: EDITION for any but edition 3
+pub data RangeInSays (bytes : List ℕ) (c : Opened) (further o : Outcome (Option ℕ)) : Type 0 where
+  other-edition : (c .head .edition ≡ runs → ⊥) → o ≡ refused EDITION 0 → RangeInSays bytes c further o
+  in-runs : c .head .edition ≡ runs → InSays bytes c further o → RangeInSays bytes c further o
+
+abbrev pub BetweenInSays : List ℕ → Opened → ℤ → ℤ → Outcome (Option ℕ) → Type 0
+BetweenInSays bytes c a b o = RangeInSays bytes c (betweenSteps bytes c a b) o
+
+abbrev pub BetweenFromInSays : List ℕ → Opened → ℕ → ℤ → ℤ → Outcome (Option ℕ) → Type 0
+BetweenFromInSays bytes c i a b o = RangeInSays bytes c (betweenStepsFrom bytes c i a b) o
 
 -- ---- the first value in a range: 7 to 11 of a reader that knows edition 3 alone, then run by run, of which BROKEN is the one refusal
 
-pub data BetweenSays (bytes : List ℕ) (a b : ℤ) (o : Outcome (Option ℕ)) : Type 0 where
-  not-opened : (why w : ℕ) → openColumn (runs ∷ []) bytes ≡ refused why w → o ≡ refused why w → BetweenSays bytes a b o
-  by-runs : (c : Opened) → openColumn (runs ∷ []) bytes ≡ done c → o ≡ betweenSteps bytes c a b → BetweenSays bytes a b o
+pub data RangeSays (bytes : List ℕ) (further : Opened → Outcome (Option ℕ)) (o : Outcome (Option ℕ)) : Type 0 where
+  not-opened : (why w : ℕ) → openColumn (runs ∷ []) bytes ≡ refused why w → o ≡ refused why w → RangeSays bytes further o
+  by-runs : (c : Opened) → openColumn (runs ∷ []) bytes ≡ done c → o ≡ further c → RangeSays bytes further o
+
+abbrev pub BetweenSays : List ℕ → ℤ → ℤ → Outcome (Option ℕ) → Type 0
+BetweenSays bytes a b o = RangeSays bytes (λ c. betweenSteps bytes c a b) o
+
+-- from an ordinal on
+abbrev pub BetweenFromSays : List ℕ → ℕ → ℤ → ℤ → Outcome (Option ℕ) → Type 0
+BetweenFromSays bytes i a b o = RangeSays bytes (λ c. betweenStepsFrom bytes c i a b) o
 
 -- ---- a correction on top, by the two columns' own look-ups
 

@@ -1,7 +1,7 @@
 -- The terms of the three demands, over the documents' definitions: a list that may be written, its bytes, the list that bytes hold, and what
 -- has to be answered of an id by that list. Assumes nothing.
 use mathlib.Core.Logic.{_↔_}
-use Rattle.format.specs.Kit.{ℕ, suc, _-_, _%_, _^_, _<_, _≤_, _≡_, true, List, _++_, map, length, drop, leb, ℤ}
+use Rattle.format.specs.Kit.{ℕ, suc, _-_, _%_, _^_, min, _<_, _≤_, _≡_, true, List, _++_, map, length, drop, leb, ℤ}
 use Rattle.format.specs.Limits.{maxId, powerOk, minPower}
 use Rattle.format.specs.Refusals.{Outcome, done, refused, need, ROOM, SHORT, NUMBER, ID}
 use Rattle.format.specs.Pairs.{Pairs, Asc, Below}
@@ -17,11 +17,13 @@ use Rattle.format.specs.Layered.{LayeredLook, listsAnswer, walksAnswer, wordles
 use Rattle.format.specs.Page.{placeKind, placeOrdinal, placeValue, pageWords, pageReply, pageAfter}
 use Rattle.format.specs.Check.{readReply, idsAfter, valuesAfter}
 use Rattle.format.specs.Next.{lastAfter, listNext}
-use Rattle.answers.specs.Replies.{replyOf, answerOf, candidateOf, Probed}
+use Rattle.format.specs.ReadFrom.{Readout, readoutReply, readoutAfter, listReadFrom}
+use Rattle.answers.specs.Replies.{replyOf, answerOf, candidateOf, readoutOf, Probed}
 use Rattle.answers.specs.declared.Reply.{Reply}
 use Rattle.answers.specs.declared.Answer as An
 use Rattle.answers.specs.declared.Answer.{Answer}
 use Rattle.answers.specs.declared.Next.{Next}
+use Rattle.answers.specs.declared.Readout as Ro
 use Rattle.format.specs.Faults.{BrokenAt, EndsAt}
 use Rattle.format.specs.Says.{ReadSays, PageSays}
 
@@ -53,6 +55,14 @@ pub record PageTold (bytes ids os os′ : List ℕ) (vs vs′ : List ℤ) (ks ks
   pub ordinals-after : os′ ≡ pageAfter placeOrdinal outcome os
   pub values-after : vs′ ≡ pageAfter placeValue outcome vs
   pub kinds-after : ks′ ≡ pageAfter placeKind outcome ks
+
+-- and of pairs from an id on
+pub record ReadFromTold (Says : Outcome Readout → Type 0) (is is′ : List ℕ) (xs xs′ : List ℤ) (r : Ro.Readout) : Type 0 where
+  pub outcome : Outcome Readout
+  pub says : Says outcome
+  pub reply : readoutOf r ≡ readoutReply outcome
+  pub ids-after : is′ ≡ readoutAfter (λ w. w .ids) outcome is
+  pub values-after : xs′ ≡ readoutAfter (λ w. w .values) outcome xs
 
 -- a call that reads these bytes' header where so is the case: what it says with a number is NUMBER with the place of the byte that decided it, and SHORT with
 -- the byte count, exactly where the header broke or ended (document 02, [4])
@@ -163,3 +173,10 @@ pub record PageAnswers {bytes : List ℕ} {n : ℕ} (x : Holds bytes n) (ids os 
 pub record NextAnswers {bytes : List ℕ} {n : ℕ} (x : Holds bytes n) (last t : ℕ) (a : Next) : Type 0 where
   pub candidate : candidateOf (a .candidate) ≡ listNext (pairsOf x) last t
   pub cursor : a .cursor .last ≡ lastAfter (listNext (pairsOf x) last t) last t
+
+-- pairs from an id on: in the first places the list's own, in order, as many as there is room for, and what was there after them; ended exactly where
+-- no more are left
+pub record ReadFromAnswers {bytes : List ℕ} {n : ℕ} (x : Holds bytes n) (t : ℕ) (is is′ : List ℕ) (xs xs′ : List ℤ) (r : Ro.Readout) : Type 0 where
+  pub reply : readoutOf r ≡ readoutReply (listReadFrom (pairsOf x) t (min (length is) (length xs)))
+  pub ids : is′ ≡ readoutAfter (λ w. w .ids) (listReadFrom (pairsOf x) t (min (length is) (length xs))) is
+  pub values : xs′ ≡ readoutAfter (λ w. w .values) (listReadFrom (pairsOf x) t (min (length is) (length xs))) xs

@@ -8,6 +8,7 @@
 //
 //   here         write, check, read, look_up          opened.rt    open, look_up_in, next_in, first_between_in, look_up_layered_in
 //   plans.rt     write_planned, plan                  asking.rt    look_up_page, next, new_cursor, first_between
+//   pairs.rt     read_from, pair_at, first_between_from, and those of an opened column
 //   layers.rt    look_up_layered, layered_values, layered_part
 //   sets.rt      set_write, set_check, set_find       sections.rt  judge_section
 //
@@ -36,6 +37,7 @@ mod asking;
 mod fits;
 mod layers;
 mod opened;
+mod pairs;
 mod plans;
 mod sections;
 mod sets;

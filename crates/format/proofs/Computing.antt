@@ -27,6 +27,9 @@ use Rattle.format.specs.Walk.{indexOf, seenOr, walkFrom, walk, listed, l
 use Rattle.format.specs.Pairs.{ascFrom}
 use Rattle.format.specs.FirstBetween.{scanFrom, runsFrom, betweenSteps, firstBetween, firstBetweenIn, firstIn}
 use Rattle.format.specs.Next.{decides, inTurn, nextSteps, next, nextIn, lastAfter, firstFrom, listNext, inSequence}
+use Rattle.format.specs.ReadFrom.{isNone, goesOn, pairsFrom, readSteps, readFrom, readFromIn, readoutReply, readoutAfter, listReadout, listReadFrom}
+use Rattle.format.specs.PairAt.{lastIn, lastUpTo, bitAfter, denseWith, placeWith, pairFrom, pairSteps, pairAt, pairAtIn, listPair}
+use Rattle.format.specs.BetweenFrom.{fromValue, betweenStepsFrom, firstBetweenFrom, firstBetweenFromIn}
 use Rattle.format.specs.SetBytes.{setKind, begins, past, missing, setList, setData, setBlockAs, setBlock, setBytes, setWrite}
 use Rattle.format.specs.SetCalls.{listLengthOk, setDataBytes, setDataFits, setDataOk, setPlaces, dataFrom, lengthFrom, kindFrom, blockFrom, setRun}
 use Rattle.format.specs.SetCalls.{blocksFrom, setIds, setCheck, memberIn, setFind}
@@ -45,7 +48,9 @@ unfolding bind onesIn andThen need given needNone bytesOf countFrom digits same 
     writeAs writePlanned write writeReply writeOut openColumn headFrom headOk idPart valuePart valueIn valueOf check allValues pairsIn isDone isColumn
     accepted reading scan halveIn halve inSparse onesFrom strideLong strideRank denseAt placeAt probesAt entryAt answer fromEntry steps entered
     probesFrom stepProbes lookUp openedProbes lookUpProbes lookUpIn indexOf seenOr walkFrom walk listedPlaces probes decides inTurn nextSteps next
-    nextIn lastAfter firstFrom listNext inSequence scanFrom runsFrom betweenSteps firstBetween firstBetweenIn firstIn insert insertAll tableOf codeIn
+    nextIn lastAfter firstFrom listNext inSequence isNone goesOn pairsFrom readSteps readFrom readFromIn readoutReply readoutAfter listReadout listReadFrom
+    lastIn lastUpTo bitAfter denseWith placeWith pairFrom pairSteps pairAt pairAtIn listPair fromValue betweenStepsFrom firstBetweenFrom
+    firstBetweenFromIn scanFrom runsFrom betweenSteps firstBetween firstBetweenIn firstIn insert insertAll tableOf codeIn
     tableFields tableEntry tableSection tableValue ascendsFrom ascends isIn allIn valueShare shorter tableOk tabled planOk planOf planned planEdition
     chosen plan ascFrom setKind begins past missing setList setData setBlockAs setBlock setBytes setWrite listLengthOk setDataBytes setDataFits
     setDataOk setPlaces dataFrom lengthFrom kindFrom blockFrom setRun blocksFrom setIds setCheck listed memberIn setFind placeKind placeOrdinal

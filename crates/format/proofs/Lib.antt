@@ -16,5 +16,6 @@ pub mod PinsPage
 pub mod PinsLucene
 pub mod PinsJudge
 pub mod PinsRuns
+pub mod PinsReadFrom
 pub mod Only
 pub mod RankBytes

@@ -1,6 +1,6 @@
 -- The refusal numbers that a definition can give, on any input: chains of tests, each of which refuses with a number of one kind, and the parts of the
 -- calls. Assumes nothing.
-use Rattle.format.specs.Kit.{_≡_, subst, Bool, true, false, cond, not, List, Option, none, some, ℕ, zero, suc, _/_, arith, eqb, ℤ, leZ}
+use Rattle.format.specs.Kit.{_≡_, subst, Bool, true, false, cond, not, _&&_, List, Option, none, some, ℕ, zero, suc, _/_, arith, eqb, ltb, ℤ, leZ}
 use Rattle.format.specs.Limits.{blockPlaces}
 use Rattle.format.specs.Refusals.{Outcome, done, refused, andThen, need, given, needNone, SHORT, NUMBER, EDITION, HEADER, LENGTH, DAMAGED, BROKEN}
 use Rattle.format.specs.Bytes.{lowAt}
@@ -12,8 +12,11 @@ use Rattle.format.specs.Check.{accepted}
 use Rattle.format.specs.LookUp.{Look, Place, found, absent, inside, nowhere, broken, Rule, answer, fromEntry, steps}
 use Rattle.format.specs.Next.{Candidate, decides, inTurn, nextSteps}
 use Rattle.format.specs.SetCalls.{dataFrom, lengthFrom, kindFrom, blockFrom, blocksFrom, setIds}
-use Rattle.format.specs.ValueRuns.{Summary, runCount, summaryAt}
+use Rattle.format.specs.ValueRuns.{Summary, runLength, runCount, summaryAt}
 use Rattle.format.specs.FirstBetween.{between, skipped, scanFrom, runsFrom, betweenSteps}
+use Rattle.format.specs.BetweenFrom.{fromValue, betweenStepsFrom}
+use Rattle.format.specs.ReadFrom.{readSteps}
+use Rattle.format.specs.PairAt.{pairFrom, pairSteps}
 
 -- ---- numbers of one kind
 
@@ -128,6 +131,22 @@ module _ (P : ℕ → Type 0) where
     unfolding nextSteps
     of-next t = of-turns _ t _ (at-done _)
 
+    -- pairs in turn: the first candidate decides
+    pub of-read : (t room : ℕ) → Only P (readSteps bytes c t room)
+    unfolding readSteps
+    of-read t room = at-then _ _ (of-next t) (λ x. at-done _)
+
+    -- the pair with an ordinal
+    of-pair-from : (o j : ℕ) (e : Entry) → Only P (pairFrom bytes c o j e)
+    unfolding pairFrom
+    of-pair-from o j e =
+        at-need _ _ _ _ b (at-need _ _ _ _ b (at-need _ _ _ _ b (at-need _ _ _ _ b
+        (at-then _ _ (at-given _ _ _ b) (λ r. at-then _ _ (at-given _ _ _ b) (λ v. at-done _))))))
+
+    pub of-pair : (o : ℕ) → Only P (pairSteps bytes c o)
+    unfolding pairSteps
+    of-pair o = at-cond (ltb o (c .head .count)) _ _ (of-pair-from o _ _) (at-done _)
+
     -- values in turn
     module _ (f : ℕ → Option ℤ) (low high : ℤ) where
       of-scan : (m i : ℕ) (more : Outcome (Option ℕ)) → Only P more → Only P (scanFrom f low high m i more)
@@ -146,6 +165,14 @@ module _ (P : ℕ → Type 0) where
     unfolding betweenSteps
     of-between low high =
         at-cond (leZ low high) _ _ (of-runs (valueOf bytes c) low high (summaryAt (valuePart bytes c)) (c .head .count) (runCount (c .head .count)) 0)
+        (at-done _)
+
+    pub of-between-from : (o : ℕ) (low high : ℤ) → Only P (betweenStepsFrom bytes c o low high)
+    unfolding betweenStepsFrom fromValue
+    of-between-from o low high =
+        let later = of-runs (valueOf bytes c) low high (summaryAt (valuePart bytes c)) (c .head .count) _ _ in
+        at-cond (leZ low high && ltb o (c .head .count)) _ _
+        (at-cond (skipped low high (summaryAt (valuePart bytes c) (o / runLength))) _ _ later (of-scan (valueOf bytes c) low high _ _ _ later))
         (at-done _)
 
   -- a set's blocks, and the list that they hold (document 02, [14])

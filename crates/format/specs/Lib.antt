@@ -25,8 +25,11 @@ pub mod Check
 pub mod LookUp
 pub mod Walk
 pub mod Next
+pub mod ReadFrom
+pub mod PairAt
 pub mod Layered
 pub mod FirstBetween
+pub mod BetweenFrom
 pub mod SetBytes
 pub mod SetCalls
 pub mod Page
@@ -38,4 +41,5 @@ pub mod JudgeFaults
 pub mod SetFaults
 pub mod Says
 pub mod Runs
+pub mod Drawn
 pub mod Stores

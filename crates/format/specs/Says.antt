@@ -14,7 +14,9 @@ use Rattle.format.specs.Table.{maxEntries}
 use Rattle.format.specs.Plan.{planOk, planned, planEdition, chosen}
 use Rattle.format.specs.Opening.{headOk, Opened, openColumn}
 use Rattle.format.specs.LookUp.{Look, halved, steps, lookUp}
-use Rattle.format.specs.Next.{Candidate, nextSteps}
+use Rattle.format.specs.Next.{Candidate, noCandidate, nextSteps}
+use Rattle.format.specs.ReadFrom.{Readout, pairsFrom}
+use Rattle.format.specs.PairAt.{pairSteps}
 use Rattle.format.specs.SetBytes.{setBytes}
 use Rattle.format.specs.Lists.{ColumnOf}
 use Rattle.format.specs.Faults.{BrokenAt, EndsAt}
@@ -139,3 +141,18 @@ pub data NextSays (known : List Edition) (bytes : List ℕ) (last t : ℕ) (o : 
   going-back : t ≤ maxId → t < last → o ≡ refused BACK 0 → NextSays known bytes last t o
   not-opened : t ≤ maxId → last ≤ t → (why w : ℕ) → openColumn known bytes ≡ refused why w → o ≡ refused why w → NextSays known bytes last t o
   by-steps : t ≤ maxId → last ≤ t → (c : Opened) → openColumn known bytes ≡ done c → o ≡ nextSteps bytes c t → NextSays known bytes last t o
+
+-- pairs from an id on: ID, those of opening, then what the very first candidate is refused with; and else the pairs
+pub data ReadFromSays (known : List Edition) (bytes : List ℕ) (t room : ℕ) (o : Outcome Readout) : Type 0 where
+  above-limit : maxId < t → o ≡ refused ID 0 → ReadFromSays known bytes t room o
+  not-opened : t ≤ maxId → (why w : ℕ) → openColumn known bytes ≡ refused why w → o ≡ refused why w → ReadFromSays known bytes t room o
+  first-fails : t ≤ maxId → (c : Opened) → openColumn known bytes ≡ done c → (why w : ℕ) → nextSteps bytes c t ≡ refused why w → o ≡ refused why w
+      → ReadFromSays known bytes t room o
+  in-turn : t ≤ maxId → (c : Opened) → openColumn known bytes ≡ done c → (x : Candidate) → nextSteps bytes c t ≡ done x → o ≡ done (pairsFrom room bytes c t)
+      → ReadFromSays known bytes t room o
+
+-- the pair with an ordinal: those of opening; none for an ordinal of n or more; then what the steps give, of which BROKEN is the one refusal
+pub data PairAtSays (known : List Edition) (bytes : List ℕ) (i : ℕ) (o : Outcome Candidate) : Type 0 where
+  not-opened : (why w : ℕ) → openColumn known bytes ≡ refused why w → o ≡ refused why w → PairAtSays known bytes i o
+  none-there : (c : Opened) → openColumn known bytes ≡ done c → c .head .count ≤ i → o ≡ done noCandidate → PairAtSays known bytes i o
+  by-steps : (c : Opened) → openColumn known bytes ≡ done c → i < c .head .count → o ≡ pairSteps bytes c i → PairAtSays known bytes i o

@@ -7,17 +7,9 @@ use Rattle.format.specs.LookUp.{Sought, halve, halving, halved, inSparse}
 use Rattle.laws.proofs.Cases.{below-or}
 use Rattle.laws.proofs.Halving.{halve-none, halve-hit, halve-past, halve-before, probes-12, IndexUnder, index-under}
 use Rattle.laws.proofs.Probes.{length-shorts}
+use Rattle.laws.proofs.Standing.{short-at}
 use Rattle.in_block.specs.Place.{inOneWord, Searched}
 use Rattle.in_block.specs.declared.Inner as In
-
--- entry m of those at `at`
-entry-is : (c m at : ℕ) (s : List ℕ) → m < c → getD (shorts c (drop at s)) m 0 ≡ lowAt 2 s (at + 2 * m)
-unfolding shorts lowAt
-entry-is zero m at s h = absurd (omega arith)
-entry-is (suc c) zero at s h = rw (add-zero at)
-entry-is (suc c) (suc m) at s h =
-    let e : at + 2 + 2 * m ≡ at + 2 * suc m = omega arith in
-    rw (drop-drop 2 at s) (entry-is c m (at + 2) s (omega arith) ∙ rw e)
 
 -- ---- the half that is left
 
@@ -44,7 +36,7 @@ module _ (s : List ℕ) (at lo hi r n c : ℕ) (h : hi ≤ c) where
   probe = lowAt 2 s (at + 2 * ((lo + hi) / 2))
 
   pub the-entry : lo < hi → getD entries ((lo + hi) / 2) 0 ≡ probe
-  the-entry l = entry-is c ((lo + hi) / 2) at s (omega arith)
+  the-entry l = short-at c ((lo + hi) / 2) at s (omega arith)
 
   pub stops : lo ≡ hi → 16 * 65536 + n ≡ inOneWord (halve r entries lo hi n)
   stops e = rw (halve-none r entries lo hi n (omega arith)) refl

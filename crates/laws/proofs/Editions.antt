@@ -1,6 +1,7 @@
 -- The editions: their numbers, edition 1 in document 01's words, editions 2 and 3 in document 02's, and that the codec of each is lawful.
 -- Assumes nothing.
-use Rattle.format.specs.Kit.{_≡_, true, refl, sym, ap, _∙_, false, _&&_, List, [], _∷_, some, Option·some-injective, ℕ, _/_, _%_, _^_, _<_, div-le-self}
+use Rattle.format.specs.Kit.{_≡_, true, refl, sym, ap, _∙_, false, _&&_, List, [], _∷_, some, Option·some-injective, ℕ, _/_, _%_, _^_, _<_, div-le-self, _+_}
+use Rattle.format.specs.Kit.{_*_}
 use Rattle.format.specs.Kit.{lt-of-le-of-lt, arith, leb, eqb, lit<, ℤ, drop, le-leb, leb-true, eqb-true, ne-eqb}
 use Rattle.format.specs.Limits.{maxWidth}
 use Rattle.format.specs.HeaderNumbers.{zigzag, unzigzag}
@@ -139,6 +140,14 @@ pub runs-value : (n : ℕ) (f : Fields) (s : List ℕ) (i : ℕ) → codec runs 
     ≡ inRun (f .divisor) (drop (directoryLength n) s) (summaryAt s (i / runLength)) (i % runLength)
 unfolding codec inRuns
 runs-value n f s i = refl
+
+-- value k of run r is that of its ordinal
+pub value-in : (n : ℕ) (f : Fields) (s : List ℕ) (r k : ℕ) → k < runLength
+    → inRun (f .divisor) (drop (directoryLength n) s) (summaryAt s r) k ≡ codec runs .value n f s (runLength * r + k)
+value-in n f s r k h =
+    let q : (runLength * r + k) / runLength ≡ r = omega arith in
+    let m : (runLength * r + k) % runLength ≡ k = omega arith in
+    sym (runs-value n f s (runLength * r + k) ∙ rw (q, m))
 
 -- ---- all editions but the fourth take every list (document 02, [12])
 

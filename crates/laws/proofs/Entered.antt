@@ -142,10 +142,10 @@ module _ {ed : Edition} (p : ℕ) (ids : List ℕ) (vs : List ℤ) (ok : Valid e
 
   -- ---- step 1: the entry
 
-  entries : length (jumpsFrom p 0 0 0 (runs ids)) + 0 ≡ endOf 0 (runs ids) + 1
+  pub entries : length (jumpsFrom p 0 0 0 (runs ids)) + 0 ≡ endOf 0 (runs ids) + 1
   entries = length-jumps p 0 0 0 (runs ids) (blocks-asc p ids vs ok)
 
-  entries-at : drop (entriesFrom p ids) (idSection p ids) ≡ bytesOf entryBytes (jumps p ids)
+  pub entries-at : drop (entriesFrom p ids) (idSection p ids) ≡ bytesOf entryBytes (jumps p ids)
   unfolding idSection blocks endBlock
   entries-at =
       ap (drop (entriesFrom p ids))
@@ -231,11 +231,11 @@ module _ {ed : Edition} (p : ℕ) (ids : List ℕ) (vs : List ℤ) (ok : Valid e
         subst (Met p ids id) (pair o s) at-its-entry)
         (λ e. inr (other-block (runs ids) refl e))
 
-  two-dropped : length (jumpsFrom p 0 0 0 (runs ids)) ≡ 2 → jumps p ids ≡ []
+  pub two-dropped : length (jumpsFrom p 0 0 0 (runs ids)) ≡ 2 → jumps p ids ≡ []
   unfolding jumps notTwo
   two-dropped e = rw (eq-eqb (length (jumpsFrom p 0 0 0 (runs ids))) 2 e)
 
-  all-kept : (length (jumpsFrom p 0 0 0 (runs ids)) ≡ 2 → ⊥) → jumps p ids ≡ jumpsFrom p 0 0 0 (runs ids)
+  pub all-kept : (length (jumpsFrom p 0 0 0 (runs ids)) ≡ 2 → ⊥) → jumps p ids ≡ jumpsFrom p 0 0 0 (runs ids)
   unfolding jumps notTwo
   all-kept e = rw (ne-eqb (length (jumpsFrom p 0 0 0 (runs ids))) 2 e)
 

@@ -57,12 +57,12 @@ not-le (negsuc a) (negsuc b) e = lt-ltb a b (leb-false b a e)
 -- ---- the scan of a list
 
 -- the first, or what is found later
-abbrev orElse : Option ℕ → Option ℕ → Option ℕ
+abbrev pub orElse : Option ℕ → Option ℕ → Option ℕ
 orElse (some i) later = some i
 orElse none later = later
 
 module _ (a b : ℤ) where
-  first-split : (m i : ℕ) (vs : List ℤ) → firstIn a b i vs ≡ orElse (firstIn a b i (take m vs)) (firstIn a b (i + m) (drop m vs))
+  pub first-split : (m i : ℕ) (vs : List ℤ) → firstIn a b i vs ≡ orElse (firstIn a b i (take m vs)) (firstIn a b (i + m) (drop m vs))
   unfolding firstIn
   first-split zero i vs = rw (add-zero i)
   first-split (suc m) i [] = refl
@@ -77,7 +77,7 @@ module _ (a b : ℤ) where
   none-found i (v ∷ vs) t = rw (t .0) (none-found (suc i) vs (t .1))
 
   -- by step 7 in turn, where each value is there
-  scan-list : (f : ℕ → Option ℤ) (vs : List ℤ) (i : ℕ) (more : Option ℕ) → ((j : ℕ) → j < length vs → f (i + j) ≡ some (getD vs j (pos 0)))
+  pub scan-list : (f : ℕ → Option ℤ) (vs : List ℤ) (i : ℕ) (more : Option ℕ) → ((j : ℕ) → j < length vs → f (i + j) ≡ some (getD vs j (pos 0)))
       → scanFrom f a b (length vs) i (done more) ≡ done (orElse (firstIn a b i vs) more)
   unfolding firstIn scanFrom andThen given
   scan-list f [] i more h = refl
@@ -96,12 +96,19 @@ module _ (a b : ℤ) where
   below-a vs e =
       each-map {Q = λ v. between a b v ≡ false} (λ v h. rw (below-not a v (le-lt v (greatest vs) a h e))) vs (greatest-each vs)
 
-  skip-none : (g at i : ℕ) (vs : List ℤ) → skipped a b (summaryOf g at vs) ≡ true → firstIn a b i vs ≡ none
+  pub skip-none : (g at i : ℕ) (vs : List ℤ) → skipped a b (summaryOf g at vs) ≡ true → firstIn a b i vs ≡ none
   unfolding summaryOf
   skip-none g at i vs e =
       true-or (ltZ b (smallest vs))
       (λ t. none-found i vs (above-b vs t))
       (λ t. none-found i vs (below-a vs (rw t at e)))
+
+  -- a > b
+  pub none-at-all : leZ a b ≡ false → (i : ℕ) (vs : List ℤ) → firstIn a b i vs ≡ none
+  none-at-all t i vs = none-found i vs (each-map {Q = λ v. between a b v ≡ false} (λ v h. out v) vs (smallest-each vs))
+    where
+      out : (v : ℤ) → between a b v ≡ false
+      out v = true-or (leZ a v) (λ l. rw l (below-not v b (lt-le b a v (not-le a b t) (rw l tt)))) (λ l. rw l)
 
   -- ---- run by run
 
@@ -110,7 +117,7 @@ module _ (a b : ℤ) where
     abbrev n : ℕ
     n = length vs
 
-    in-run : (r j : ℕ) → j < length (take runLength (drop (runLength * r) vs))
+    pub in-run : (r j : ℕ) → j < length (take runLength (drop (runLength * r) vs))
         → f (runLength * r + j) ≡ some (getD (take runLength (drop (runLength * r) vs)) j (pos 0))
     in-run r j h =
         let i : ℕ = runLength * r in
@@ -118,7 +125,7 @@ module _ (a b : ℤ) where
         there (i + j) (omega arith)
         ∙ ap (λ (v : ℤ). some v) (sym (getD-take runLength (drop i vs) j (pos 0) (omega arith) ∙ getD-drop i vs j (pos 0)))
 
-    run-scanned : (k r : ℕ) → r + k ≡ runCount n → runsFrom f x a b n k r ≡ done (firstIn a b (runLength * r) (drop (runLength * r) vs))
+    pub run-scanned : (k r : ℕ) → r + k ≡ runCount n → runsFrom f x a b n k r ≡ done (firstIn a b (runLength * r) (drop (runLength * r) vs))
     unfolding runsFrom firstIn
     run-scanned zero r e = rw (drop-of-length-le vs {i = runLength * r} (omega arith))
     run-scanned (suc k) r e =
@@ -142,7 +149,7 @@ module _ (a b : ℤ) where
 
 -- ---- the column of a list
 
-only-runs : Knows (runs ∷ []) runs
+pub only-runs : Knows (runs ∷ []) runs
 unfolding editionIn numberOf
 only-runs = refl
 
@@ -153,11 +160,11 @@ module _ (p : ℕ) (ids : List ℕ) (vs : List ℤ) (ok : Valid runs p ids vs) w
   abbrev col : Opened
   col = the-column runs p ids vs
 
-  values-there : (i : ℕ) → i < length vs → valueOf bytes col i ≡ some (getD vs i (pos 0))
+  pub values-there : (i : ℕ) → i < length vs → valueOf bytes col i ≡ some (getD vs i (pos 0))
   unfolding valueOf the-column
   values-there i h = rw (values-part runs (lawful runs) p ids vs ok) (value-back runs (lawful runs) p ids vs ok i h)
 
-  its-summary : (r : ℕ) → r < runCount (length vs)
+  pub its-summary : (r : ℕ) → r < runCount (length vs)
       → (g : ℕ) × ((at : ℕ) × (summaryAt (valuePart bytes col) r ≡ summaryOf g at (take runLength (drop (runLength * r) vs))))
   unfolding codec
   its-summary r h = (
@@ -169,7 +176,7 @@ module _ (p : ℕ) (ids : List ℕ) (vs : List ℤ) (ok : Valid runs p ids vs) w
     ),
   )
 
-  counted : col .head .count ≡ length vs
+  pub counted : col .head .count ≡ length vs
   unfolding the-column the-head headOf
   counted = ok .lengths
 
@@ -182,10 +189,7 @@ module _ (p : ℕ) (ids : List ℕ) (vs : List ℤ) (ok : Valid runs p ids vs) w
       (λ t. rw t
       (ap (λ (n : ℕ). runsFrom f x a b n (runCount n) 0) counted
       ∙ run-scanned a b f x vs values-there its-summary (runCount (length vs)) 0 (omega arith)))
-      (λ t. rw t (ap (λ (o : Option ℕ). done o) (sym (none-found a b 0 vs (each-map {Q = λ v. between a b v ≡ false} (λ v h. out v t) vs (smallest-each vs))))))
-    where
-      out : (v : ℤ) → leZ a b ≡ false → between a b v ≡ false
-      out v t = true-or (leZ a v) (λ l. rw l (below-not v b (lt-le b a v (not-le a b t) (rw l tt)))) (λ l. rw l)
+      (λ t. rw t (ap (λ (o : Option ℕ). done o) (sym (none-at-all a b t 0 vs))))
 
   pub column-between : (a b : ℤ) → firstBetween bytes a b ≡ done (firstIn a b 0 vs)
   unfolding firstBetween andThen

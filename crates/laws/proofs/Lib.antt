@@ -10,6 +10,7 @@ pub mod Cases
 pub mod Tests
 pub mod Rules
 pub mod Stores
+pub mod Drawn
 pub mod Digits
 pub mod Runs
 pub mod Orders
@@ -72,3 +73,12 @@ pub mod Retired
 pub mod Layered
 pub mod Alone
 pub mod FirstBetween
+pub mod BetweenFrom
+pub mod ReadFrom
+pub mod ReadCalls
+pub mod Readings
+pub mod ReadOn
+pub mod LastUpTo
+pub mod PlaceWith
+pub mod PairAt
+pub mod LongBits

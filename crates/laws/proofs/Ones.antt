@@ -22,7 +22,7 @@ unfoldable pub occurs : ℕ → List ℕ → ℕ
 occurs x [] = 0
 occurs x (r ∷ rs) = cond (eqb r x) 1 0 + occurs x rs
 
-occurs-none : (x a : ℕ) (rs : List ℕ) → x < a → Asc a rs → occurs x rs ≡ 0
+pub occurs-none : (x a : ℕ) (rs : List ℕ) → x < a → Asc a rs → occurs x rs ≡ 0
 unfolding occurs
 occurs-none x a [] h t = refl
 occurs-none x a (r ∷ rs) h t = rw (ne-eqb r x (λ e. omega (arith, t .0)), occurs-none x (suc r) rs (omega (arith, t .0)) (t .1))

@@ -11,9 +11,12 @@ use Rattle.format.specs.Check.{check, reading}
 use Rattle.format.specs.LookUp.{Look, found, absent, lookUp}
 use Rattle.format.specs.Next.{next}
 use Rattle.format.specs.FirstBetween.{firstBetween}
+use Rattle.format.specs.BetweenFrom.{firstBetweenFrom}
+use Rattle.format.specs.ReadFrom.{readFrom}
+use Rattle.format.specs.PairAt.{pairAt}
 use Rattle.format.specs.Layered.{machine, correction, refusedBy, onTop, underneath, lookUpLayered}
 use Rattle.format.specs.Page.{placeKind}
-use Rattle.format.proofs.Only.{Only, only, at-done, at-need, at-then, of-accepted, of-steps, of-next, of-between}
+use Rattle.format.proofs.Only.{Only, only, at-done, at-need, at-then, of-accepted, of-steps, of-next, of-read, of-pair, of-between, of-between-from}
 use Rattle.laws.proofs.Tests.{needed, stopped}
 use Rattle.laws.proofs.HeaderFaults.{open-number, open-short}
 use Rattle.laws.proofs.Layered.{layered-says}
@@ -45,13 +48,15 @@ answered-within known bytes id x e = leb-true id maxId (needed _ _ _ _ x e .0)
 
 -- ---- the calls
 
--- "the bytes are so" is exactly what each call says with this refusal and number; a look-up and the next candidate test their id first
+-- "the bytes are so" is exactly what each call says with this refusal and number; those that are told an id test it first
 pub record Exactly (known : List Edition) (bytes : List ℕ) (why w : ℕ) (So : Type 0) : Type 0 where
   pub opening : (openColumn known bytes ≡ refused why w) ↔ So
   pub checking : (check known bytes ≡ refused why w) ↔ So
   pub full-reading : (idRoom valueRoom : ℕ) → (reading known bytes idRoom valueRoom ≡ refused why w) ↔ So
   pub looking : (id : ℕ) → (lookUp known bytes id ≡ refused why w) ↔ ((id ≤ maxId) × So)
   pub nexting : (last t : ℕ) → (next known bytes last t ≡ refused why w) ↔ ((t ≤ maxId) × (last ≤ t) × So)
+  pub reading-from : (t room : ℕ) → (readFrom known bytes t room ≡ refused why w) ↔ ((t ≤ maxId) × So)
+  pub pairing : (i : ℕ) → (pairAt known bytes i ≡ refused why w) ↔ So
   -- as the correction; and as the machine column, wherever the correction has the id as absent
   pub on-top : (m : List ℕ) (id : ℕ) → (lookUpLayered known m bytes id ≡ refusedBy correction why w) ↔ ((id ≤ maxId) × So)
   pub below : (c : List ℕ) (id : ℕ)
@@ -89,6 +94,20 @@ module _ (known : List Edition) (bytes : List ℕ) (why w : ℕ) (l : why ≤ LE
         λ s. rw (le-leb t maxId (s .0), le-leb last t (s .1)) (a .1 (o .1 (s .2))),
       )
 
+  reads-from : (t room : ℕ) → (readFrom known bytes t room ≡ refused why w) ↔ ((t ≤ maxId) × So)
+  unfolding readFrom need
+  reads-from t room =
+      let a = opening-alone known bytes why w l _ (λ c. of-read Later (lit< tt) bytes c t room) in (
+        λ e. let x = test-before known bytes why w l _ ID 0 _ (lit< tt) e in (leb-true t maxId (x .0), o .0 (a .0 (x .1))),
+        λ s. rw (le-leb t maxId (s .0)) (a .1 (o .1 (s .1))),
+      )
+
+  pairs : (i : ℕ) → (pairAt known bytes i ≡ refused why w) ↔ So
+  unfolding pairAt
+  pairs i =
+      let a = opening-alone known bytes why w l _ (λ c. of-pair Later (lit< tt) bytes c i) in
+      (λ e. o .0 (a .0 e), λ s. a .1 (o .1 s))
+
   tops : (m : List ℕ) (id : ℕ) → (lookUpLayered known m bytes id ≡ refusedBy correction why w) ↔ ((id ≤ maxId) × So)
   unfolding lookUpLayered onTop
   tops m id = (λ e. looks id .0 (layered-says known m bytes id _ e), λ s. rw (looks id .1 s) refl)
@@ -104,7 +123,18 @@ module _ (known : List Edition) (bytes : List ℕ) (why w : ℕ) (l : why ≤ LE
   )
 
   exactly : Exactly known bytes why w So
-  exactly = record { opening = o; checking = checks; full-reading = reads; looking = looks; nexting = nexts; on-top = tops; below = belows }
+  exactly =
+      record {
+        opening = o;
+        checking = checks;
+        full-reading = reads;
+        looking = looks;
+        nexting = nexts;
+        reading-from = reads-from;
+        pairing = pairs;
+        on-top = tops;
+        below = belows;
+      }
 
 -- 7 to 11: what opening says
 pub passes : (known : List Edition) (bytes : List ℕ) (why w : ℕ) → why ≤ LENGTH → Exactly known bytes why w (openColumn known bytes ≡ refused why w)
@@ -120,25 +150,35 @@ module _ (known : List Edition) (bytes : List ℕ) (u : Below 256 bytes) (w : �
   pub short-exactly : Exactly known bytes SHORT w (EndsAt known bytes w)
   short-exactly = exactly known bytes SHORT w (lit≤ tt) (EndsAt known bytes w) (open-short known bytes w u)
 
--- ---- the question of [11], which knows edition 3 alone
+-- ---- the question of [11], which knows edition 3 alone, from an ordinal on too
 
-pub between-passes : (bytes : List ℕ) (a b : ℤ) (why w : ℕ) → why ≤ LENGTH
-    → (firstBetween bytes a b ≡ refused why w) ↔ (openColumn (runs ∷ []) bytes ≡ refused why w)
-unfolding firstBetween
-between-passes bytes a b why w l = opening-alone (runs ∷ []) bytes why w l _ (λ c. of-between Later (lit< tt) bytes c a b)
+-- "the bytes are so" is exactly what both say with this refusal and number
+pub record ExactlyIn3 (bytes : List ℕ) (why w : ℕ) (So : Type 0) : Type 0 where
+  pub ranging : (a b : ℤ) → (firstBetween bytes a b ≡ refused why w) ↔ So
+  pub ranging-from : (i : ℕ) (a b : ℤ) → (firstBetweenFrom bytes i a b ≡ refused why w) ↔ So
 
-module _ (bytes : List ℕ) (u : Below 256 bytes) (a b : ℤ) (w : ℕ) where
-  pub between-number : (firstBetween bytes a b ≡ refused NUMBER w) ↔ BrokenAt (runs ∷ []) bytes w
-  between-number =
-      let o = between-passes bytes a b NUMBER w (lit≤ tt) in
-      let n = open-number (runs ∷ []) bytes w u in
-      (λ e. n .0 (o .0 e), λ s. o .1 (n .1 s))
+module _ (bytes : List ℕ) (why w : ℕ) (l : why ≤ LENGTH) (So : Type 0) (o : (openColumn (runs ∷ []) bytes ≡ refused why w) ↔ So) where
+  ranges : (a b : ℤ) → (firstBetween bytes a b ≡ refused why w) ↔ So
+  unfolding firstBetween
+  ranges a b =
+      let x = opening-alone (runs ∷ []) bytes why w l _ (λ c. of-between Later (lit< tt) bytes c a b) in
+      (λ e. o .0 (x .0 e), λ s. x .1 (o .1 s))
 
-  pub between-short : (firstBetween bytes a b ≡ refused SHORT w) ↔ EndsAt (runs ∷ []) bytes w
-  between-short =
-      let o = between-passes bytes a b SHORT w (lit≤ tt) in
-      let n = open-short (runs ∷ []) bytes w u in
-      (λ e. n .0 (o .0 e), λ s. o .1 (n .1 s))
+  ranges-from : (i : ℕ) (a b : ℤ) → (firstBetweenFrom bytes i a b ≡ refused why w) ↔ So
+  unfolding firstBetweenFrom
+  ranges-from i a b =
+      let x = opening-alone (runs ∷ []) bytes why w l _ (λ c. of-between-from Later (lit< tt) bytes c i a b) in
+      (λ e. o .0 (x .0 e), λ s. x .1 (o .1 s))
+
+  exactly-in-3 : ExactlyIn3 bytes why w So
+  exactly-in-3 = record { ranging = ranges; ranging-from = ranges-from }
+
+module _ (bytes : List ℕ) (u : Below 256 bytes) (w : ℕ) where
+  pub number-in-3 : ExactlyIn3 bytes NUMBER w (BrokenAt (runs ∷ []) bytes w)
+  number-in-3 = exactly-in-3 bytes NUMBER w (lit≤ tt) (BrokenAt (runs ∷ []) bytes w) (open-number (runs ∷ []) bytes w u)
+
+  pub short-in-3 : ExactlyIn3 bytes SHORT w (EndsAt (runs ∷ []) bytes w)
+  short-in-3 = exactly-in-3 bytes SHORT w (lit≤ tt) (EndsAt (runs ∷ []) bytes w) (open-short (runs ∷ []) bytes w u)
 
 -- ---- a page's bare kinds
 

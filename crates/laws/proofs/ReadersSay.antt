@@ -1,4 +1,4 @@
--- Document 01, "Refusal numbers", and document 02, [1], [3]: the check, the reading, a page, a look-up and the next candidate answer exactly by their tables
+-- Document 01, "Refusal numbers", and document 02, [1], [3]: the calls that read, ask for ids and for ordinals answer exactly by their tables
 -- (format/specs/Says.antt), on every input. Assumes nothing.
 use Rattle.format.specs.Kit.{_≡_, _↔_, refl, sym, ap, ap₂, _∙_, Bool, true, false, _&&_, _⊎_, inl, inr, ⊎-elim, List, ℕ, _≤_, arith, length, leb, leb-true}
 use Rattle.format.specs.Kit.{leb-false, le-leb, lt-leb}
@@ -9,11 +9,14 @@ use Rattle.format.specs.Editions.{Edition}
 use Rattle.format.specs.Opening.{Opened, openColumn}
 use Rattle.format.specs.Check.{accepted, check, reading}
 use Rattle.format.specs.LookUp.{Look, lookUp}
-use Rattle.format.specs.Next.{Candidate, next}
+use Rattle.format.specs.Next.{Candidate, noCandidate, nextSteps, next}
+use Rattle.format.specs.ReadFrom.{Readout, readSteps, readFrom}
+use Rattle.format.specs.PairAt.{pairSteps, pairAt}
 use Rattle.format.specs.Page.{page}
 use Rattle.format.specs.Lists.{ColumnOf}
-use Rattle.format.specs.Says.{ReadSays, PageSays, CheckSays, LookSays, NextSays}
-use Rattle.laws.proofs.Cases.{true-or}
+use Rattle.format.specs.Says.{ReadSays, PageSays, CheckSays, LookSays, NextSays, ReadFromSays, PairAtSays}
+use Rattle.laws.proofs.Cases.{true-or, below-or}
+use Rattle.laws.proofs.PairAt.{no-pair}
 use Rattle.laws.proofs.Editions.{lawful, lawful-reader}
 use Rattle.laws.proofs.Demands.{accepts-columns, columns-accepted, damaged-no-column, reads-columns, read-back}
 
@@ -213,3 +216,54 @@ module _ (known : List Edition) (bytes : List ℕ) (last t : ℕ) (o : Outcome C
 
   pub next-exactly : (next known bytes last t ≡ o) ↔ NextSays known bytes last t o
   next-exactly = (next-says, said-next)
+
+-- ---- pairs from an id on
+
+module _ (known : List Edition) (bytes : List ℕ) (t room : ℕ) (o : Outcome Readout) where
+  steps-say : (c : Opened) → openColumn known bytes ≡ done c → leb t maxId ≡ true → (x : Outcome Candidate) → nextSteps bytes c t ≡ x
+      → readFrom known bytes t room ≡ o → ReadFromSays known bytes t room o
+  unfolding readFrom readSteps andThen need
+  steps-say c f h (done x) n e = ReadFromSays.in-turn (leb-true t maxId h) c f x n (sym e ∙ rw (h, f, n) refl)
+  steps-say c f h (refused why w) n e = ReadFromSays.first-fails (leb-true t maxId h) c f why w n (sym e ∙ rw (h, f, n) refl)
+
+  read-from-says : readFrom known bytes t room ≡ o → ReadFromSays known bytes t room o
+  unfolding readFrom andThen need
+  read-from-says e =
+      true-or (leb t maxId)
+      (λ h.
+      opened-or known bytes
+      (λ c f. steps-say c f h (nextSteps bytes c t) refl e)
+      (λ why w f. ReadFromSays.not-opened (leb-true t maxId h) why w f (sym e ∙ rw (h, f) refl)))
+      (λ h. ReadFromSays.above-limit (leb-false t maxId h) (sym e ∙ rw h refl))
+
+  said-read-from : ReadFromSays known bytes t room o → readFrom known bytes t room ≡ o
+  unfolding readFrom readSteps andThen need
+  said-read-from (ReadFromSays.above-limit h e) = rw (lt-leb t maxId h) (sym e)
+  said-read-from (ReadFromSays.not-opened h why w f e) = rw (le-leb t maxId h, f) (sym e)
+  said-read-from (ReadFromSays.first-fails h c f why w n e) = rw (le-leb t maxId h, f, n) (sym e)
+  said-read-from (ReadFromSays.in-turn h c f x n e) = rw (le-leb t maxId h, f, n) (sym e)
+
+  pub read-from-exactly : (readFrom known bytes t room ≡ o) ↔ ReadFromSays known bytes t room o
+  read-from-exactly = (read-from-says, said-read-from)
+
+-- ---- the pair with an ordinal
+
+module _ (known : List Edition) (bytes : List ℕ) (i : ℕ) (o : Outcome Candidate) where
+  pair-at-says : pairAt known bytes i ≡ o → PairAtSays known bytes i o
+  unfolding pairAt andThen
+  pair-at-says e =
+      opened-or known bytes
+      (λ c f.
+      below-or i (c .head .count)
+      (λ l. PairAtSays.by-steps c f l (sym e ∙ rw f refl))
+      (λ l. PairAtSays.none-there c f l (sym e ∙ rw f (no-pair bytes c i l))))
+      (λ why w f. PairAtSays.not-opened why w f (sym e ∙ rw f refl))
+
+  said-pair-at : PairAtSays known bytes i o → pairAt known bytes i ≡ o
+  unfolding pairAt andThen
+  said-pair-at (PairAtSays.not-opened why w f e) = rw f (sym e)
+  said-pair-at (PairAtSays.none-there c f l e) = rw f (no-pair bytes c i l ∙ sym e)
+  said-pair-at (PairAtSays.by-steps c f l e) = rw f (sym e)
+
+  pub pair-at-exactly : (pairAt known bytes i ≡ o) ↔ PairAtSays known bytes i o
+  pair-at-exactly = (pair-at-says, said-pair-at)

@@ -3,7 +3,7 @@
 use Rattle.format.specs.Kit.{_≡_, refl, sym, subst, _∙_, Bool, true, false, _&&_, List, [], _∷_, ℕ, ℤ, eqb, eqb-true}
 use Rattle.format.specs.Refusals.{Outcome, refused, need, HEADER, BUFFER, writeNumbers, plannedNumbers, setWriteNumbers, openNumbers, checkNumbers}
 use Rattle.format.specs.Refusals.{readNumbers, lookUpNumbers, nextNumbers, betweenNumbers, lookUpInNumbers, nextInNumbers, betweenInNumbers}
-use Rattle.format.specs.Refusals.{setCheckNumbers, setFindNumbers}
+use Rattle.format.specs.Refusals.{pairAtNumbers, pairAtInNumbers, setCheckNumbers, setFindNumbers}
 use Rattle.format.specs.Editions.{Edition, among}
 use Rattle.format.specs.Plan.{plan}
 use Rattle.format.specs.Writer.{writeIf, writeAs, writePlanned, write}
@@ -12,13 +12,17 @@ use Rattle.format.specs.Check.{check, reading}
 use Rattle.format.specs.LookUp.{lookUp, lookUpIn}
 use Rattle.format.specs.Next.{next, nextIn}
 use Rattle.format.specs.FirstBetween.{firstBetween, firstBetweenIn}
+use Rattle.format.specs.BetweenFrom.{firstBetweenFrom, firstBetweenFromIn}
+use Rattle.format.specs.ReadFrom.{readFrom, readFromIn}
+use Rattle.format.specs.PairAt.{pairAt, pairAtIn}
 use Rattle.format.specs.Page.{page}
 use Rattle.format.specs.Layered.{Layer, machine, correction, refusedBy, lookUpLayered, lookUpLayeredIn}
 use Rattle.format.specs.Orders.{Order}
 use Rattle.format.specs.Judge.{judgeSection}
 use Rattle.format.specs.SetBytes.{setWrite}
 use Rattle.format.specs.SetCalls.{setCheck, setFind}
-use Rattle.format.proofs.Only.{Only, only, at-done, at-need, at-none, at-given, at-then, of-open, of-accepted, of-steps, of-next, of-between, of-set}
+use Rattle.format.proofs.Only.{Only, only, at-done, at-need, at-none, at-given, at-then, of-open, of-accepted, of-steps, of-next, of-read, of-pair}
+use Rattle.format.proofs.Only.{of-between, of-between-from, of-set}
 use Rattle.laws.proofs.Cases.{true-or, false-true}
 use Rattle.laws.proofs.Tests.{both-true}
 use Rattle.laws.proofs.Plans.{chosen-takes}
@@ -96,6 +100,18 @@ module _ (known : List Edition) (bytes : List ℕ) where
       (at-need _ _ _ _ _ refl (at-need _ _ _ _ _ refl
       (at-then _ _ _ (of-open _ refl refl refl refl refl known bytes) (λ c. of-next _ refl bytes c t))))
 
+  -- pairs from an id on, refused as a look-up is
+  pub read-from-refusals : (t room : ℕ) → Refusals lookUpNumbers (readFrom known bytes t room)
+  unfolding readFrom among
+  read-from-refusals t room why w =
+      only (OneOf lookUpNumbers) _ why w
+      (at-need _ _ _ _ _ refl (at-then _ _ _ (of-open _ refl refl refl refl refl known bytes) (λ c. of-read _ refl bytes c t room)))
+
+  pub pair-at-refusals : (i : ℕ) → Refusals pairAtNumbers (pairAt known bytes i)
+  unfolding pairAt among
+  pair-at-refusals i why w =
+      only (OneOf pairAtNumbers) _ why w (at-then _ _ _ (of-open _ refl refl refl refl refl known bytes) (λ c. of-pair _ refl bytes c i))
+
   pub page-refusals : (ids : List ℕ) (o v k : ℕ) → Refusals (BUFFER ∷ []) (page known bytes ids o v k)
   unfolding page among
   page-refusals ids o v k why w = only (OneOf (BUFFER ∷ [])) _ why w (at-need _ _ _ _ _ refl (at-done _ _))
@@ -105,6 +121,12 @@ unfolding firstBetween among
 between-refusals bytes a b why w =
     only (OneOf betweenNumbers) _ why w
     (at-then _ _ _ (of-open _ refl refl refl refl refl _ bytes) (λ c. of-between _ refl bytes c a b))
+
+pub between-from-refusals : (bytes : List ℕ) (o : ℕ) (a b : ℤ) → Refusals betweenNumbers (firstBetweenFrom bytes o a b)
+unfolding firstBetweenFrom among
+between-from-refusals bytes o a b why w =
+    only (OneOf betweenNumbers) _ why w
+    (at-then _ _ _ (of-open _ refl refl refl refl refl _ bytes) (λ c. of-between-from _ refl bytes c o a b))
 
 -- ---- from a column that was opened before, or any numbers in its place
 
@@ -126,6 +148,23 @@ module _ (bytes : List ℕ) (c : Opened) where
   between-in-refusals a b why w =
       only (OneOf betweenInNumbers) _ why w
       (at-need _ _ _ _ _ refl (at-need _ _ _ _ _ refl (at-need _ _ _ _ _ refl (of-between _ refl bytes c a b))))
+
+  pub read-from-in-refusals : (t room : ℕ) → Refusals lookUpInNumbers (readFromIn bytes c t room)
+  unfolding readFromIn among
+  read-from-in-refusals t room why w =
+      only (OneOf lookUpInNumbers) _ why w
+      (at-need _ _ _ _ _ refl (at-need _ _ _ _ _ refl (at-need _ _ _ _ _ refl (of-read _ refl bytes c t room))))
+
+  pub pair-at-in-refusals : (i : ℕ) → Refusals pairAtInNumbers (pairAtIn bytes c i)
+  unfolding pairAtIn among
+  pair-at-in-refusals i why w =
+      only (OneOf pairAtInNumbers) _ why w (at-need _ _ _ _ _ refl (at-need _ _ _ _ _ refl (of-pair _ refl bytes c i)))
+
+  pub between-from-in-refusals : (o : ℕ) (a b : ℤ) → Refusals betweenInNumbers (firstBetweenFromIn bytes c o a b)
+  unfolding firstBetweenFromIn among
+  between-from-in-refusals o a b why w =
+      only (OneOf betweenInNumbers) _ why w
+      (at-need _ _ _ _ _ refl (at-need _ _ _ _ _ refl (at-need _ _ _ _ _ refl (of-between-from _ refl bytes c o a b))))
 
 -- ---- with a correction on top: by the column that refuses
 

@@ -5,7 +5,7 @@ use Rattle.format.specs.Kit.{drop, drop-at}
 use Rattle.format.specs.Limits.{maxBlocks, startLimit}
 use Rattle.format.specs.Refusals.{Outcome, done, refused, LENGTHS, POWER, ORDER, RANGE, ROOM, SHORT, NUMBER, EDITION, HEADER, LENGTH, BUFFER, DAMAGED}
 use Rattle.format.specs.Refusals.{ID, BROKEN, BACK, PLAN, writeNumbers, plannedNumbers, setWriteNumbers, openNumbers, checkNumbers, readNumbers, lookUpNumbers}
-use Rattle.format.specs.Refusals.{nextNumbers, betweenNumbers, lookUpInNumbers, nextInNumbers, betweenInNumbers, setCheckNumbers, setFindNumbers}
+use Rattle.format.specs.Refusals.{nextNumbers, betweenNumbers, lookUpInNumbers, nextInNumbers, betweenInNumbers, pairAtNumbers, pairAtInNumbers, setCheckNumbers, setFindNumbers}
 use Rattle.format.specs.Bytes.{bytesOf}
 use Rattle.format.specs.Ids.{Run, runs, blockOf, endBlock, jumps, entryBytes, blocks, idSection, startOf}
 use Rattle.format.specs.Runs.{AllFine, AscBlocks, endOf, totalBytes}
@@ -19,6 +19,9 @@ use Rattle.format.specs.LookUp.{Look, found, absent, lookUp, lookUpIn}
 use Rattle.format.specs.Page.{placeKind, page}
 use Rattle.format.specs.Next.{next, nextIn}
 use Rattle.format.specs.FirstBetween.{firstBetween, firstBetweenIn}
+use Rattle.format.specs.BetweenFrom.{firstBetweenFrom, firstBetweenFromIn}
+use Rattle.format.specs.ReadFrom.{readFrom, readFromIn}
+use Rattle.format.specs.PairAt.{pairAt, pairAtIn}
 use Rattle.format.specs.Layered.{Layer, refusedBy, lookUpLayered, lookUpLayeredIn}
 use Rattle.format.specs.Orders.{Order}
 use Rattle.format.specs.Judge.{judgeSection}
@@ -32,7 +35,8 @@ use Rattle.laws.proofs.RoundTrip.{power16, power-ge, blocks-asc, blocks
 use Rattle.laws.proofs.RefusalNumbers.{within, unlisted, write-refusals, planned-refusals, plan-refusals, set-write-refusals, open-refusals}
 use Rattle.laws.proofs.RefusalNumbers.{check-refusals, reading-refusals, look-up-refusals, next-refusals, page-refusals, between-refusals}
 use Rattle.laws.proofs.RefusalNumbers.{look-up-in-refusals, next-in-refusals, between-in-refusals, layered-refusals, layered-in-refusals}
-use Rattle.laws.proofs.RefusalNumbers.{judge-refusals, set-check-refusals, set-find-refusals}
+use Rattle.laws.proofs.RefusalNumbers.{read-from-refusals, pair-at-refusals, between-from-refusals, read-from-in-refusals, pair-at-in-refusals}
+use Rattle.laws.proofs.RefusalNumbers.{between-from-in-refusals, judge-refusals, set-check-refusals, set-find-refusals}
 
 -- ---- no block starts near the line
 
@@ -99,8 +103,14 @@ pub record ReadersNever (k : ℕ) : Type 0 where
   pub looking-in : (bytes : List ℕ) (c : Opened) (id w : ℕ) → lookUpIn bytes c id ≡ refused k w → ⊥
   pub nexting : (known : List Edition) (bytes : List ℕ) (last t w : ℕ) → next known bytes last t ≡ refused k w → ⊥
   pub nexting-in : (bytes : List ℕ) (c : Opened) (last t w : ℕ) → nextIn bytes c last t ≡ refused k w → ⊥
+  pub reading-from : (known : List Edition) (bytes : List ℕ) (t room w : ℕ) → readFrom known bytes t room ≡ refused k w → ⊥
+  pub reading-from-in : (bytes : List ℕ) (c : Opened) (t room w : ℕ) → readFromIn bytes c t room ≡ refused k w → ⊥
+  pub pairing : (known : List Edition) (bytes : List ℕ) (i w : ℕ) → pairAt known bytes i ≡ refused k w → ⊥
+  pub pairing-in : (bytes : List ℕ) (c : Opened) (i w : ℕ) → pairAtIn bytes c i ≡ refused k w → ⊥
   pub ranging : (bytes : List ℕ) (a b : ℤ) (w : ℕ) → firstBetween bytes a b ≡ refused k w → ⊥
   pub ranging-in : (bytes : List ℕ) (c : Opened) (a b : ℤ) (w : ℕ) → firstBetweenIn bytes c a b ≡ refused k w → ⊥
+  pub ranging-from : (bytes : List ℕ) (i : ℕ) (a b : ℤ) (w : ℕ) → firstBetweenFrom bytes i a b ≡ refused k w → ⊥
+  pub ranging-from-in : (bytes : List ℕ) (c : Opened) (i : ℕ) (a b : ℤ) (w : ℕ) → firstBetweenFromIn bytes c i a b ≡ refused k w → ⊥
   pub paging : (known : List Edition) (bytes ids : List ℕ) (o v ks w : ℕ) → page known bytes ids o v ks ≡ refused k w → ⊥
   pub layering : (known : List Edition) (m c : List ℕ) (id : ℕ) (layer : Layer) (w : ℕ) → lookUpLayered known m c id ≡ refusedBy layer k w → ⊥
   pub layering-in : (m : List ℕ) (x : Opened) (c : List ℕ) (y : Opened) (id : ℕ) (layer : Layer) (w : ℕ)
@@ -136,8 +146,14 @@ readers-never k n =
       looking-in = λ bytes c id w e. unlisted lookUpInNumbers readers k refl n (look-up-in-refusals bytes c id k w e);
       nexting = λ known bytes last t w e. unlisted nextNumbers readers k refl n (next-refusals known bytes last t k w e);
       nexting-in = λ bytes c last t w e. unlisted nextInNumbers readers k refl n (next-in-refusals bytes c last t k w e);
+      reading-from = λ known bytes t room w e. unlisted lookUpNumbers readers k refl n (read-from-refusals known bytes t room k w e);
+      reading-from-in = λ bytes c t room w e. unlisted lookUpInNumbers readers k refl n (read-from-in-refusals bytes c t room k w e);
+      pairing = λ known bytes i w e. unlisted pairAtNumbers readers k refl n (pair-at-refusals known bytes i k w e);
+      pairing-in = λ bytes c i w e. unlisted pairAtInNumbers readers k refl n (pair-at-in-refusals bytes c i k w e);
       ranging = λ bytes a b w e. unlisted betweenNumbers readers k refl n (between-refusals bytes a b k w e);
       ranging-in = λ bytes c a b w e. unlisted betweenInNumbers readers k refl n (between-in-refusals bytes c a b k w e);
+      ranging-from = λ bytes i a b w e. unlisted betweenNumbers readers k refl n (between-from-refusals bytes i a b k w e);
+      ranging-from-in = λ bytes c i a b w e. unlisted betweenInNumbers readers k refl n (between-from-in-refusals bytes c i a b k w e);
       paging = λ known bytes ids o v ks w e. unlisted (BUFFER ∷ []) readers k refl n (page-refusals known bytes ids o v ks k w e);
       layering = λ known m c id layer w e. unlisted lookUpNumbers readers k refl n (layered-refusals m c id k w known layer e);
       layering-in = λ m x c y id layer w e. unlisted lookUpInNumbers readers k refl n (layered-in-refusals m c id k w x y layer e);

@@ -1,6 +1,7 @@
 -- A block stands at a place of an id section: what is read there, and what stands after it. Blocks that stand at a place, up to the
 -- end block, are what every loop over blocks keeps. Assumes nothing.
-use Rattle.format.specs.Kit.{_≡_, sym, ap, _∙_, List, [], _∷_, _++_, append-assoc, ℕ, suc, _+_, _-_, _*_, _<_, _≤_, arith, length, take, drop}
+use Rattle.format.specs.Kit.{_≡_, sym, ap, _∙_, List, [], _∷_, _++_, append-assoc, ℕ, zero, suc, _+_, _-_, _*_, _<_, _≤_, add-zero, arith, length, getD, take}
+use Rattle.format.specs.Kit.{drop}
 use Rattle.format.specs.Kit.{length-append, length-drop, drop-at, drop-drop}
 use Rattle.format.specs.Limits.{blockPlaces, endNumber}
 use Rattle.format.specs.Bytes.{fromLow, fromDigits, bytesOf, lowAt}
@@ -48,6 +49,15 @@ short-next s t c i h =
     let e : c - i ≡ suc (c - (i + 1)) = omega arith in
     let f : t + 2 * i + 2 ≡ t + 2 * (i + 1) = omega arith in
     rw (e, drop-drop 2 (t + 2 * i) s, f)
+
+-- entry i of a sparse block
+pub short-at : (c i at : ℕ) (s : List ℕ) → i < c → getD (shorts c (drop at s)) i 0 ≡ lowAt 2 s (at + 2 * i)
+unfolding shorts lowAt
+short-at zero i at s h = absurd (omega arith)
+short-at (suc c) zero at s h = rw (add-zero at)
+short-at (suc c) (suc i) at s h =
+    let e : at + 2 + 2 * i ≡ at + 2 * suc i = omega arith in
+    rw (drop-drop 2 at s) (short-at c i (at + 2) s (omega arith) ∙ rw e)
 
 -- ---- blocks, up to the end block
 

@@ -22,7 +22,7 @@ use Rattle.next.specs.Blocks.{AskedOf, reached}
 use Rattle.next.specs.declared.Met as Me
 
 -- the same asked of place y of block b
-abbrev askFor : Ask → ℕ → ℕ → Ask
+abbrev pub askFor : Ask → ℕ → ℕ → Ask
 askFor q b y = record { entries = q .entries; jumps = q .jumps; power = q .power; count = q .count; block = b; place = y }
 
 asked-for : (c : Opened) (q : Ask) (b y : ℕ) → y < 65536 → AskedOf c q → Asked c (b * 65536 + y) (askFor q b y)
@@ -51,7 +51,7 @@ one-place bytes c b o y (nowhere w) above rest more e = e
 one-place bytes c b o y broken above rest more e = refl
 
 -- n ids of the block, from place y on
-in-places : (bytes : List ℕ) (c : Opened) (b o : ℕ) (f : ℕ → Place) → ((y : ℕ) → y < 65536 → steps scanned bytes c (b * 65536 + y) ≡ answer bytes c o (f y))
+pub in-places : (bytes : List ℕ) (c : Opened) (b o : ℕ) (f : ℕ → Place) → ((y : ℕ) → y < 65536 → steps scanned bytes c (b * 65536 + y) ≡ answer bytes c o (f y))
     → (n y : ℕ) → y + n ≤ 65536 → (more : Outcome Candidate) → inTurn n bytes c (b * 65536 + y) more ≡ placed bytes c b o (firstIn n f y) more
 unfolding inTurn firstIn
 in-places bytes c b o f h zero y l more = refl

@@ -38,7 +38,7 @@ enum Met {
     Broken,
 }
 
-fn id_of(b: usize, place: usize) -> u32
+pub fn id_of(b: usize, place: usize) -> u32
     requires { ⌜ (b ≤ maxBlock) × (place < blockPlaces) ⌝ }
     ensures { λ r. ⌜ r ≡ b * blockPlaces + place ⌝ }
 {
@@ -78,7 +78,7 @@ fn in_block(s: &[u8], q: Ask, b: usize, r: usize) -> Met
 
 // From block b on, the first that is not passed over at once: from the last jump entry on all blocks go by one entry, and without
 // entries all do.
-fn next_block(s: &[u8], q: Ask, b: usize) -> usize
+pub fn next_block(s: &[u8], q: Ask, b: usize) -> usize
     requires { ⌜ (Fair (length (now s)) q) × (b ≤ maxBlock + 1) ⌝ }
     ensures { λ x. ⌜ PassedTo (now (s .entry)) q b x ⌝ }
 {
@@ -130,11 +130,11 @@ const FAILED: u64 = 2;
 
 // What the steps come to, in whole words: found, with id, ordinal and value; absent; a failed step. (Ordinal and value stand apart, since the
 // callers would read them as one number of 16 bytes just after they were written as two, which stalls.)
-struct Sum {
-    ordinal: u64,
-    kind: u64,
-    value: i64,
-    id: u32,
+pub struct Sum {
+    pub ordinal: u64,
+    pub kind: u64,
+    pub value: i64,
+    pub id: u32,
 }
 
 fn no_more(kind: u64) -> Sum
@@ -149,7 +149,7 @@ fn no_more(kind: u64) -> Sum
 }
 
 // On a column that keeps the header rules and fits these bytes.
-fn steps_from(bytes: &[u8], column: Column, target: u32) -> Sum
+pub fn steps_from(bytes: &[u8], column: Column, target: u32) -> Sum
     requires { ⌜ (headOk (columnOf column .head) ≡ true) × (lengthOk (now bytes) (columnOf column) ≡ true) × (target ≤ maxId) ⌝ }
     ensures { λ r. ⌜ sumOf r ≡ nextSteps (now (bytes .entry)) (columnOf column) target ⌝ }
 {

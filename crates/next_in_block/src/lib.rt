@@ -2,7 +2,7 @@
 // block from the place's own on, a full block at once.
 ghost use mathlib.Core.Path.{_≡_};
 ghost use mathlib.Core.Bool.{false, _||_};
-ghost use Prim.Native.Nat.{ℕ, _+_, _-_, _*_, _≤_, _<_};
+ghost use Prim.Native.Nat.{ℕ, _+_, _-_, _*_, _/_, _^_, _≤_, _<_};
 ghost use lib.ListN.{length};
 ghost use lib.Count.{trailingZeros};
 ghost use lib.Dec.{leb};
@@ -69,7 +69,7 @@ fn skipped(s: &[u8], at: usize, count: usize, r: u16) -> usize
 }
 
 // The first of the entries at `at` that is r or above; `count`, if there is none.
-fn first_entry(s: &[u8], at: usize, count: usize, r: u16) -> usize
+pub fn first_entry(s: &[u8], at: usize, count: usize, r: u16) -> usize
     requires { ⌜ at + 2 * count ≤ length (now s) ⌝ }
     ensures { λ i. ⌜ FirstEntry (now (s .entry)) at count r i ⌝ }
 {
@@ -100,10 +100,18 @@ fn sparse(s: &[u8], at: usize, count: usize, r: usize) -> First
 
 // ---- step 6, dense
 
-fn zeros_below(x: u64) -> usize
+pub fn zeros_below(x: u64) -> usize
     ensures { λ r. ⌜ (r ≡ trailingZeros 64 x) × (r ≤ 64) ⌝ }
 {
     numbers::size(numbers::wide32(u64::trailing_zeros(x)))
+}
+
+// The bits above bit z.
+pub fn bits_above(x: u64, z: usize) -> u64
+    requires { ⌜ z < 64 ⌝ }
+    ensures { λ r. ⌜ r ≡ x / 2 ^ (z + 1) ⌝ }
+{
+    (x >> z) >> 1
 }
 
 // The first set bit of the long from b on; 64 or above, if there is none.
@@ -133,7 +141,7 @@ fn first_one(s: &[u8], m: usize, r: usize) -> usize
 }
 
 // The index of place r, by its stride's rank and the ones before it.
-fn index_of(s: &[u8], t: usize, p: usize, r: usize) -> u64
+pub fn index_of(s: &[u8], t: usize, p: usize, r: usize) -> u64
     requires { ⌜ (Power p) × (r < blockPlaces) × (t + rankBytes p + bitmapBytes ≤ length (now s)) ⌝ }
     ensures { λ i. ⌜ i ≡ innerIn p (now (s .entry)) t r ⌝ }
 {

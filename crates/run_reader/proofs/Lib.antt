@@ -1,4 +1,2 @@
--- The order of values in their biased forms, what is left of a search, and a run as a section of its own.
-pub mod Ordered
-pub mod Left
+-- A run as a section of its own.
 pub mod Part

@@ -19,7 +19,7 @@ use Rattle.laws.proofs.RoundTrip.{all-same, all-at, all-part}
 use Rattle.laws.proofs.Stores.{part-more, part-put}
 use Rattle.run_values.specs.Summaries.{reachesIn}
 use Rattle.run_values.proofs.Reached.{narrow, reach, at-reached, not-reached, reached}
-use Rattle.run_reader.proofs.Left.{value-in}
+use Rattle.laws.proofs.Editions.{value-in}
 
 module _ (s : List ℕ) (from g : ℕ) (x : Summary) (n : ℕ) (vs : List ℤ) (all : allValues n (inRun g (drop from s) x) ≡ some vs) where
   -- each number is within the section

@@ -4,17 +4,19 @@ ghost use mathlib.Core.Path.{_≡_};
 ghost use mathlib.Core.Bool.{true};
 ghost use mathlib.Core.List.{List, _++_};
 ghost use mathlib.Core.Option.{some};
-ghost use Prim.Native.Nat.{_+_, _*_, _^_, _≤_, _<_};
+ghost use Prim.Native.Nat.{_+_, _-_, _*_, _^_, _≤_, _<_};
 ghost use lib.IntN.{ℤ};
 ghost use lib.ListN.{length, drop, set};
 ghost use lib.Seq.{sets};
 ghost use Rattle.format.specs.Limits.{maxCount};
 ghost use Rattle.format.specs.Codec.{scaled};
 ghost use Rattle.format.specs.Check.{allValues};
+ghost use Rattle.format.specs.Drawn.{drawn};
 ghost use Rattle.answers.specs.Replies.{fieldsOf};
 ghost use Rattle.signed.specs.Sign.{unbiased};
 ghost use Rattle.packings.specs.Packings.{packingOf, cut};
 ghost use Rattle.scaled_reader.specs.Stored.{FourFit, fourOf, AllFit, FilledTo};
+use answers::Fetched;
 use answers::Fields;
 use packings::Order;
 
@@ -141,4 +143,46 @@ pub fn fill(values: &mut [i64], section: &[u8], order: Order, n: usize, fields: 
         at += next >> 3;
         skip = next & 7;
     }
+}
+
+// ---- some of them
+
+// The values of the ordinals from x on, of n, into places `from` to `end`, up to the first that has none, where all have one smallest value,
+// divisor and width: number after number. Says where it noMore.
+pub fn draw(
+    values: &mut [i64],
+    section: &[u8],
+    order: Order,
+    n: usize,
+    fields: Fields,
+    x: usize,
+    from: usize,
+    end: usize,
+) -> usize
+    requires { ⌜ (n ≤ maxCount) × (scaled (packingOf order) .fieldsOk n (fieldsOf fields) (length (now section)) ≡ true) × (x + (end - from) ≤ n)
+        × (from ≤ end) × (end ≤ length (now values)) ⌝ }
+    ensures { λ r.
+        ⌜ (r ≡ from + length (drawn (scaled (packingOf order) .value n (fieldsOf fields) (now (section .entry))) (end - from) x))
+        × (now (values .exit)
+        ≡ sets (now (values .entry)) from (drawn (scaled (packingOf order) .value n (fieldsOf fields) (now (section .entry))) (end - from) x)) ⌝ }
+{
+    let low = signed::biased_of(fields.smallest);
+    let w = fields.width as usize;
+    let mut o = x;
+    let mut at = packing::byte_of(x, w);
+    let mut skip = packing::skip_of(x, w);
+    let mut i = from;
+    while i < end {
+        let stored = packings::next_of(section, order, w, o, n, at, skip);
+        let Fetched::Value(value) = scaling::value_above(low, fields.divisor, stored) else {
+            return i;
+        };
+        values[i] = value;
+        o += 1;
+        i += 1;
+        let next = skip + w;
+        at += next >> 3;
+        skip = next & 7;
+    }
+    i
 }

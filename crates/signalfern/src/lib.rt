@@ -1,7 +1,7 @@
 // Signalfern: score columns written, checked, read back, looked up and walked. Each call can be handed any input at all; its promise
 // fixes the reply and every lent buffer afterwards by the definitions of crate format (document 01, and document 02 for what it adds).
 ghost use mathlib.Core.Path.{_≡_};
-ghost use Prim.Native.Nat.{_≤_};
+ghost use Prim.Native.Nat.{min, _≤_};
 ghost use lib.ListN.{length};
 ghost use Rattle.format.specs.Writer.{write, writePlanned, writeReply, writeOut};
 ghost use Rattle.format.specs.Plan.{plan};
@@ -13,21 +13,26 @@ ghost use Rattle.format.specs.LookUp.{stepProbes, lookUp, lookUpProbes, lookUpI
 ghost use Rattle.format.specs.Walk.{strideWords, FewWords};
 ghost use Rattle.format.specs.Page.{placeKind, placeOrdinal, placeValue, page, pageReply, pageAfter};
 ghost use Rattle.format.specs.Next.{next, nextIn, lastAfter};
+ghost use Rattle.format.specs.ReadFrom.{readFrom, readFromIn, readoutReply, readoutAfter};
+ghost use Rattle.format.specs.PairAt.{pairAt, pairAtIn};
 ghost use Rattle.format.specs.FirstBetween.{firstBetween, firstBetweenIn};
+ghost use Rattle.format.specs.BetweenFrom.{firstBetweenFrom, firstBetweenFromIn};
 ghost use Rattle.format.specs.Layered.{Layer, ofLayer, lookUpLayered, lookUpLayeredIn, layeredPart, IsPart};
 ghost use Rattle.format.specs.SetBytes.{setWrite};
 ghost use Rattle.format.specs.SetCalls.{setCheck, setFind};
 ghost use Rattle.format.specs.Judge.{judgeSection};
-ghost use Rattle.answers.specs.Replies.{replyOf, answerOf, candidateOf, betweenOf, memberOf, Probed, orderOf, judgementOf};
+ghost use Rattle.answers.specs.Replies.{replyOf, answerOf, candidateOf, readoutOf, betweenOf, memberOf, Probed, orderOf, judgementOf};
 ghost use Rattle.column.specs.Opened.{columnOf};
 ghost use Rattle.layered.specs.Answers.{layeredOf, wordsIn, partOf};
 use answers::Answer;
 use answers::Between;
 use answers::ByteOrder;
+use answers::Candidate;
 use answers::Cursor;
 use answers::Judgement;
 use answers::Member;
 use answers::Next;
+use answers::Readout;
 use answers::Reply;
 use column::Column;
 use layered::Layered;
@@ -162,6 +167,66 @@ pub fn next_in(column: Column, cursor: Cursor, bytes: &[u8], target: u32) -> Nex
     next::next_in(column, cursor, bytes, target)
 }
 
+// Pairs from an id on (no request of document 02: docs/DECISIONS.md): into the first places of both lists what `next` answers with a new cursor
+// for `id`, then for the id after that one, and so on, as many as both lists have places; the places after them stay as they were. `Ended`:
+// no listed id is left; `More`: go on from the last id + 1. Refused only where the very first candidate is, with room for it or not: 14, 7 to
+// 11, 15; a refusal changes nothing.
+pub fn read_from(bytes: &[u8], id: u32, ids: &mut [u32], values: &mut [i64]) -> Readout
+    ensures replies { λ r.
+        ⌜ readoutOf r ≡ readoutReply (readFrom editions (now (bytes .entry)) id (min (length (now (ids .entry))) (length (now (values .entry))))) ⌝ }
+    ensures ids_placed { λ _.
+        ⌜ now (ids .exit)
+        ≡ readoutAfter (λ w. w .ids) (readFrom editions (now (bytes .entry)) id (min (length (now (ids .entry))) (length (now (values .entry)))))
+        (now (ids .entry)) ⌝ }
+    ensures values_placed { λ _.
+        ⌜ now (values .exit)
+        ≡ readoutAfter (λ w. w .values) (readFrom editions (now (bytes .entry)) id (min (length (now (ids .entry))) (length (now (values .entry)))))
+        (now (values .entry)) ⌝ }
+{
+    read_from::read_from(bytes, id, ids, values)
+}
+
+// The same from a column that `Column::open` gave for these bytes, without reading the header again. Any other numbers in its place are safe:
+// 14, then 10 where they break a header rule, 11 where they do not fit these bytes, then 15.
+pub fn read_from_in(
+    column: Column,
+    bytes: &[u8],
+    id: u32,
+    ids: &mut [u32],
+    values: &mut [i64],
+) -> Readout
+    ensures replies { λ r.
+        ⌜ readoutOf r
+        ≡ readoutReply (readFromIn (now (bytes .entry)) (columnOf column) id (min (length (now (ids .entry))) (length (now (values .entry))))) ⌝ }
+    ensures ids_placed { λ _.
+        ⌜ now (ids .exit)
+        ≡ readoutAfter (λ w. w .ids) (readFromIn (now (bytes .entry)) (columnOf column) id (min (length (now (ids .entry))) (length (now (values .entry)))))
+        (now (ids .entry)) ⌝ }
+    ensures values_placed { λ _.
+        ⌜ now (values .exit)
+        ≡ readoutAfter (λ w. w .values) (readFromIn (now (bytes .entry)) (columnOf column) id (min (length (now (ids .entry))) (length (now (values .entry)))))
+        (now (values .entry)) ⌝ }
+{
+    read_from::read_from_in(column, bytes, id, ids, values)
+}
+
+// The pair with an ordinal (no request of document 02: docs/DECISIONS.md): its id and its value, or that there is none, for an ordinal of n or
+// more. Refusals 7 to 11, then 15. It reads the header, up to 15 jump entries, one block head, one entry, or up to 9 ranks and a stride's
+// words (a block's, without ranks), and one value.
+pub fn pair_at(bytes: &[u8], ordinal: u64) -> Candidate
+    ensures { λ r. ⌜ candidateOf r ≡ pairAt editions (now (bytes .entry)) ordinal ⌝ }
+{
+    pair_at::pair_at(bytes, ordinal)
+}
+
+// The same from a column that `Column::open` gave for these bytes, without reading the header again. Any other numbers in its place are safe:
+// 10 where they break a header rule, 11 where they do not fit these bytes, then 15.
+pub fn pair_at_in(column: Column, bytes: &[u8], ordinal: u64) -> Candidate
+    ensures { λ r. ⌜ candidateOf r ≡ pairAtIn (now (bytes .entry)) (columnOf column) ordinal ⌝ }
+{
+    pair_at::pair_at_in(column, bytes, ordinal)
+}
+
 // The first ordinal with a value from `low` to `high`, or that there is none, in a column of edition 3 (document 02, [11]). Refusals 7 to
 // 11, of which 9 for any other edition, then 15; low above high gives none. A run of values whose summary shows that it holds none is not
 // read.
@@ -177,6 +242,27 @@ pub fn first_between_in(column: Column, bytes: &[u8], low: i64, high: i64) -> Be
     ensures { λ r. ⌜ betweenOf r ≡ firstBetweenIn (now (bytes .entry)) (columnOf column) low high ⌝ }
 {
     between::first_between_in(column, bytes, low, high)
+}
+
+// The same question above an answer (no request of document 02: docs/DECISIONS.md): the first ordinal from `from` on with such a value, so that
+// all of them can be listed. None for an ordinal of n or more; else as `first_between`, which is this from 0 on.
+pub fn first_between_from(bytes: &[u8], from: u64, low: i64, high: i64) -> Between
+    ensures { λ r. ⌜ betweenOf r ≡ firstBetweenFrom (now (bytes .entry)) from low high ⌝ }
+{
+    between::first_between_from(bytes, from, low, high)
+}
+
+// The same from a column that `Column::open` gave for these bytes, as `first_between_in`.
+pub fn first_between_from_in(
+    column: Column,
+    bytes: &[u8],
+    from: u64,
+    low: i64,
+    high: i64,
+) -> Between
+    ensures { λ r. ⌜ betweenOf r ≡ firstBetweenFromIn (now (bytes .entry)) (columnOf column) from low high ⌝ }
+{
+    between::first_between_from_in(column, bytes, from, low, high)
 }
 
 // ---- a correction column on top of a machine column (document 02, [10])

@@ -3,7 +3,8 @@
 // words that the call writes, all of them, on every input. include/signalfern.h declares the calls, with names for the words, and hands structs
 // back by small functions over them. The two look-ups of one id have a quick road for columns of edition 1: both roads end in one function that
 // stands apart (`lookup::apart`; docs/DECISIONS.md, "Speed"). The calls on two columns stand in layers.rt, that on a page of ids in pages.rt,
-// those on plans in planning.rt, those on a range of values in ranges.rt, those on sets in sets.rt, the judge of a bare id section in sections.rt.
+// those on pairs from an id on and by ordinal in pairs.rt, those on plans in planning.rt, those on a range of values in ranges.rt, those on
+// sets in sets.rt, the judge of a bare id section in sections.rt.
 ghost use mathlib.Core.Path.{_≡_};
 ghost use lib.ListN.{length};
 ghost use Rattle.format.specs.Writer.{write, writeReply, writeOut};
@@ -23,6 +24,7 @@ use values::Edition;
 
 mod layers;
 mod pages;
+mod pairs;
 mod planning;
 mod ranges;
 mod sections;

@@ -4,9 +4,10 @@ ghost use mathlib.Core.Path.{_≡_};
 ghost use mathlib.Core.Bool.{true};
 ghost use mathlib.Core.List.{List, _++_};
 ghost use mathlib.Core.Option.{some};
-ghost use Prim.Native.Nat.{ℕ, _+_, _*_, _≤_};
+ghost use Prim.Native.Nat.{ℕ, _+_, _-_, _*_, _≤_};
 ghost use lib.IntN.{ℤ};
 ghost use lib.ListN.{length, drop};
+ghost use lib.Seq.{sets};
 ghost use Rattle.format.specs.Limits.{maxCount};
 ghost use Rattle.format.specs.Bytes.{lowAt, untwos};
 ghost use Rattle.format.specs.Bits.{packedBytes};
@@ -14,6 +15,7 @@ ghost use Rattle.format.specs.Pairs.{Each, Fits};
 ghost use Rattle.format.specs.Table.{maxEntries, codeWidth, tableFields, tableBytes, valueShare};
 ghost use Rattle.format.specs.Editions.{table, codec};
 ghost use Rattle.format.specs.Check.{allValues};
+ghost use Rattle.format.specs.Drawn.{drawn};
 ghost use Rattle.answers.specs.Replies.{fieldsOf, fetchedOf};
 ghost use Rattle.table_values.specs.Codes.{codeSlot, codeValue};
 ghost use Rattle.table_values.specs.Saves.{saves};
@@ -151,4 +153,44 @@ pub fn saves(table: &[i64], n: u64) -> bool
     let plain = scaled_values::plan(Order::High, table);
     let v = packing::packed_bytes(n, plain.width);
     own < share(plain, v)
+}
+
+// The values of the ordinals from x on, of n, into places `from` to `end`, code after code, up to the first that has none. Says where it
+// stopped.
+pub fn draw(
+    values: &mut [i64],
+    section: &[u8],
+    n: usize,
+    fields: Fields,
+    x: usize,
+    from: usize,
+    end: usize,
+) -> usize
+    requires { ⌜ (n ≤ maxCount) × (codec table .fieldsOk n (fieldsOf fields) (length (now section)) ≡ true) × (x + (end - from) ≤ n)
+        × (from ≤ end) × (end ≤ length (now values)) ⌝ }
+    ensures { λ r.
+        ⌜ (r ≡ from + length (drawn (codec table .value n (fieldsOf fields) (now (section .entry))) (end - from) x))
+        × (now (values .exit)
+        ≡ sets (now (values .entry)) from (drawn (codec table .value n (fieldsOf fields) (now (section .entry))) (end - from) x)) ⌝ }
+{
+    let w = fields.width as usize;
+    let start = 8 * (fields.divisor as usize);
+    let codes = &section[start..];
+    let mut o = x;
+    let mut at = packing::byte_of(x, w);
+    let mut skip = packing::skip_of(x, w);
+    let mut i = from;
+    while i < end {
+        let code = packings::next_of(codes, Order::High, w, o, n, at, skip);
+        let Fetched::Value(value) = value_of(section, fields.divisor, code) else {
+            return i;
+        };
+        values[i] = value;
+        o += 1;
+        i += 1;
+        let next = skip + w;
+        at += next >> 3;
+        skip = next & 7;
+    }
+    i
 }

@@ -3,14 +3,16 @@ ghost use mathlib.Core.Path.{_≡_};
 ghost use mathlib.Core.Bool.{true, false, cond};
 ghost use mathlib.Core.List.{List, _++_};
 ghost use mathlib.Core.Option.{some};
-ghost use Prim.Native.Nat.{_*_, _≤_, _<_};
+ghost use Prim.Native.Nat.{_+_, _-_, _*_, _≤_, _<_};
 ghost use lib.IntN.{ℤ};
 ghost use lib.Dec.{eqb};
 ghost use lib.ListN.{length, drop};
+ghost use lib.Seq.{sets};
 ghost use Rattle.format.specs.Limits.{maxCount, maxWidth};
 ghost use Rattle.format.specs.Pairs.{Each, Fits};
 ghost use Rattle.format.specs.Editions.{plain, table, codec};
 ghost use Rattle.format.specs.Check.{allValues};
+ghost use Rattle.format.specs.Drawn.{drawn};
 ghost use Rattle.scaled_values.specs.Slots.{Stands, slotNumber};
 ghost use Rattle.values.specs.Edition.{editionOf, layoutOf, orderOf, Readable, storedValue, SlotOf, fieldsOf, fetchedOf, tests, PlanFor};
 pub use answers::Fetched;
@@ -205,5 +207,93 @@ pub fn fill(values: &mut [i64], section: &[u8], edition: Edition, n: u64, fields
         Edition::Lucene => scaled_reader::fill(values, section, Order::Low, n as usize, fields),
         Edition::Runs => run_reader::fill(values, section, n as usize, fields),
         Edition::Table => table_values::fill(values, section, n as usize, fields),
+    }
+}
+
+// ---- values of ordinals that follow each other
+
+// The values of the ordinals from x on, of n, into places `from` to `end`, by step 7 for each, up to the first that has none. Says where it
+// stopped.
+fn draw_each(
+    values: &mut [i64],
+    section: &[u8],
+    edition: Edition,
+    n: u64,
+    fields: Fields,
+    x: u64,
+    from: usize,
+    end: usize,
+) -> usize
+    requires { ⌜ (n ≤ maxCount) × (codec (editionOf edition) .fieldsOk n (fieldsOf fields) (length (now section)) ≡ true) × (x + (end - from) ≤ n)
+        × (from ≤ end) × (end ≤ length (now values)) ⌝ }
+    ensures { λ r.
+        ⌜ (r ≡ from + length (drawn (codec (editionOf edition) .value n (fieldsOf fields) (now (section .entry))) (end - from) x))
+        × (now (values .exit)
+        ≡ sets (now (values .entry)) from (drawn (codec (editionOf edition) .value n (fieldsOf fields) (now (section .entry))) (end - from) x)) ⌝ }
+{
+    let mut o = x;
+    let mut i = from;
+    while i < end {
+        let slot: Slotted = slot_of(section, edition, n, fields, o);
+        let stored = number_in(section, edition, slot);
+        let Fetched::Value(value) = value_of(section, edition, fields, slot, stored) else {
+            return i;
+        };
+        values[i] = value;
+        o += 1;
+        i += 1;
+    }
+    i
+}
+
+// The same by the edition: in runs by step 7 for each.
+pub fn draw(
+    values: &mut [i64],
+    section: &[u8],
+    edition: Edition,
+    n: u64,
+    fields: Fields,
+    x: u64,
+    from: usize,
+    end: usize,
+) -> usize
+    requires { ⌜ (n ≤ maxCount) × (codec (editionOf edition) .fieldsOk n (fieldsOf fields) (length (now section)) ≡ true) × (x + (end - from) ≤ n)
+        × (from ≤ end) × (end ≤ length (now values)) ⌝ }
+    ensures { λ r.
+        ⌜ (r ≡ from + length (drawn (codec (editionOf edition) .value n (fieldsOf fields) (now (section .entry))) (end - from) x))
+        × (now (values .exit)
+        ≡ sets (now (values .entry)) from (drawn (codec (editionOf edition) .value n (fieldsOf fields) (now (section .entry))) (end - from) x)) ⌝ }
+{
+    match edition {
+        Edition::Plain => scaled_reader::draw(
+            values,
+            section,
+            Order::High,
+            n as usize,
+            fields,
+            x as usize,
+            from,
+            end,
+        ),
+        Edition::Lucene => scaled_reader::draw(
+            values,
+            section,
+            Order::Low,
+            n as usize,
+            fields,
+            x as usize,
+            from,
+            end,
+        ),
+        Edition::Runs => draw_each(values, section, edition, n, fields, x, from, end),
+        Edition::Table => table_values::draw(
+            values,
+            section,
+            n as usize,
+            fields,
+            x as usize,
+            from,
+            end,
+        ),
     }
 }

@@ -16,6 +16,7 @@ mod plot;
 mod runs;
 mod sets;
 mod tables;
+mod walks;
 
 use std::process::ExitCode;
 
@@ -50,6 +51,7 @@ fn run(options: &Options) -> Result<(), String> {
         Rows::Divisors => divisors(effort),
         Rows::Counts => counts(effort),
         Rows::Next => next::table(effort),
+        Rows::Walks => walks::table(effort),
         Rows::Layered => layered::table(effort),
         Rows::Pages => page::table(effort),
         Rows::Editions => editions::table(effort),

@@ -43,6 +43,8 @@ pub enum Rows {
     Counts,
     /// The next candidate, beside what else gives the same.
     Next,
+    /// Pairs from an id on and by their ordinals, beside what else gives the same.
+    Walks,
     /// The look-up with a correction on top, beside those that it is made of.
     Layered,
     /// A page of ids in one call, beside single look-ups and beside the reference's.
@@ -89,6 +91,7 @@ impl Options {
                 "--divisors" => options.rows = Rows::Divisors,
                 "--counts" => options.rows = Rows::Counts,
                 "--next" => options.rows = Rows::Next,
+                "--walks" => options.rows = Rows::Walks,
                 "--layered" => options.rows = Rows::Layered,
                 "--pages" => options.rows = Rows::Pages,
                 "--editions" => options.rows = Rows::Editions,
@@ -105,12 +108,13 @@ impl Options {
     }
 }
 
-const USAGE: &str = "cargo bench --bench columns -- [--widths | --divisors | --counts | --next | \
+const USAGE: &str = "cargo bench --bench columns -- [--widths | --divisors | --counts | --next | --walks | \
 --layered | --pages | --editions | --runs | --tables | --sets | --plot FILE.svg] [--save FILE] [--beside FILE]
   --widths       the calls at each width of stored numbers in place of each kind of block
   --divisors     the calls on values with large and small divisors
   --counts       look-ups alone, in blocks of few ids to many
   --next         the next candidate, beside the look-up, the reading and the reference
+  --walks        pairs from an id on and by their ordinals, beside the reading, next and the look-up
   --layered      the look-up with a correction on top, beside the look-ups that it is made of
   --pages        a page of ids in one call, beside look-ups by an opened column and the reference's page
   --editions     the calls on columns of edition 2, beside edition 1's of the same pairs, at each width

@@ -14,6 +14,8 @@ mod look_up;
 mod lucene;
 mod next;
 mod page;
+mod pair_at;
+mod read_from;
 mod runs;
 mod set;
 mod sparse;
@@ -28,7 +30,11 @@ pub use layered::{
 pub use look_up::{look_up, look_up_in};
 pub use next::{next, next_by_each_id, next_in, next_listed, Candidate, Next};
 pub use page::look_up_page;
-pub use runs::{first_between, first_between_in, Between};
+pub use pair_at::{pair_at, pair_at_in};
+pub use read_from::{read_from, read_from_in, Readout};
+pub use runs::{
+    first_between, first_between_from, first_between_from_in, first_between_in, Between,
+};
 pub use set::{set_check, set_find, set_write};
 pub use sparse::{halve, scan};
 pub use table::plan;

@@ -68,7 +68,7 @@ pub(crate) fn scanned(entries: &[u8], r: u16) -> (Option<usize>, u64) {
     (scan(entries, r), 0)
 }
 
-fn int(bytes: &[u8]) -> u64 {
+pub(crate) fn int(bytes: &[u8]) -> u64 {
     u64::from(u32::from_le_bytes([bytes[0], bytes[1], bytes[2], bytes[3]]))
 }
 

@@ -203,38 +203,62 @@ pub(crate) fn sound(column: &Column, section: &[u8]) -> bool {
 
 /// The first ordinal with a value from `low` to `high`, by the directory of a column of edition 3.
 pub fn first_between(bytes: &[u8], low: i64, high: i64) -> Between {
-    let edition = take_number(bytes, &mut 0)?;
-    if Edition::numbered(edition) != Some(Edition::Runs) {
-        return Err(Refusal::EDITION);
-    }
-    run_by_run(&open(bytes)?, bytes, low, high)
+    first_between_from(bytes, 0, low, high)
 }
 
 /// The same in a column opened before. Any numbers may stand in the column, as in a look-up; the
 /// edition comes first, as in a header.
 pub fn first_between_in(column: &Column, bytes: &[u8], low: i64, high: i64) -> Between {
+    first_between_from_in(column, bytes, 0, low, high)
+}
+
+/// The same question from an ordinal on. None for an ordinal of n or more.
+pub fn first_between_from(bytes: &[u8], from: u64, low: i64, high: i64) -> Between {
+    let edition = take_number(bytes, &mut 0)?;
+    if Edition::numbered(edition) != Some(Edition::Runs) {
+        return Err(Refusal::EDITION);
+    }
+    run_by_run(&open(bytes)?, bytes, from, low, high)
+}
+
+/// The same in a column opened before.
+pub fn first_between_from_in(
+    column: &Column,
+    bytes: &[u8],
+    from: u64,
+    low: i64,
+    high: i64,
+) -> Between {
     if Edition::numbered(column.edition) != Some(Edition::Runs) {
         return Err(Refusal::EDITION);
     }
     column.opens(bytes)?;
-    run_by_run(column, bytes, low, high)
+    run_by_run(column, bytes, from, low, high)
 }
 
 /// An ordinal, none, or a refusal.
 pub type Between = Result<Option<u64>, Refusal>;
 
-fn run_by_run(column: &Column, bytes: &[u8], low: i64, high: i64) -> Between {
-    if low > high {
+fn run_by_run(column: &Column, bytes: &[u8], from: u64, low: i64, high: i64) -> Between {
+    if low > high || from >= column.count {
         return Ok(None);
     }
+    let from = from as usize;
     let (_, section) = column.sections(bytes);
     let (directory, packed) = parts(column, section);
     for (summary, ordinals) in runs(directory, column.count) {
+        if ordinals.end <= from {
+            // A run before the ordinal's.
+            continue;
+        }
         if summary.smallest > high || summary.greatest < low {
             // Skipped unread.
             continue;
         }
-        for (k, ordinal) in ordinals.enumerate() {
+        for (k, ordinal) in ordinals
+            .enumerate()
+            .skip_while(|&(_, ordinal)| ordinal < from)
+        {
             let value = summary.value(column.divisor, packed, k);
             let value = value.ok_or(Refusal::BROKEN)?;
             if (low..=high).contains(&value) {

@@ -9,6 +9,7 @@ mod next;
 mod page;
 mod plain;
 mod plans;
+mod read_from;
 mod runs;
 mod set;
 mod table;

@@ -37,6 +37,10 @@ impl Tally {
             }
         }
         pages::look_up_exactly(bytes, asked);
+        for &id in asked.iter().take(3) {
+            self.count(same::read_from(bytes, id, (2, 3)).err());
+            self.count(same::pair_at(bytes, id.into()).err());
+        }
         for (low, high) in RANGES {
             let found = same::first_between(bytes, low, high);
             self.count(found.err());
@@ -69,6 +73,8 @@ pub fn refused_everywhere(bytes: &[u8], refusal: Refusal) {
     assert_eq!(same::read(bytes, 9, 9), Err(refusal));
     assert_eq!(same::look_up(bytes, 0), Err(refusal));
     assert_eq!(same::next(bytes, 7), Err(refusal));
+    assert_eq!(same::read_from(bytes, 7, (1, 1)), Err(refusal));
+    assert_eq!(same::pair_at(bytes, u64::MAX), Err(refusal));
     let searched = same::first_between(bytes, 0, 9);
     let in_runs = bytes.first() == Some(&3);
     assert_eq!(

@@ -2,6 +2,7 @@
 //! beside the reference.
 #![allow(dead_code, reason = "neither program uses all of it")]
 
+pub mod changes;
 pub mod damage;
 pub mod layers;
 pub mod listed;

@@ -1,6 +1,6 @@
 //! Each call of the library beside the reference, on buffers filled beforehand.
 
-use signalfern::{Checked, Column, Cursor, Edition, Header, Refusal};
+use signalfern::{Checked, Column, Cursor, Edition, Header, Readout, Refusal};
 use signalfern_reference::{self as reference, Answer, Candidate};
 
 fn numbers(refusal: Refusal) -> (u64, u64) {
@@ -245,7 +245,99 @@ pub fn next_in(
     result
 }
 
-/// Searches for a value by the bytes and, where they open, by the opened column.
+/// A list of ids and one of values of these lengths, each place with a number of its own.
+fn lists(ids_len: usize, values_len: usize) -> (Vec<u32>, Vec<i64>) {
+    let ids = (0..ids_len as u32).map(|i| !(i * 3)).collect();
+    let values = (0..values_len as i64).map(|i| !(i * 5)).collect();
+    (ids, values)
+}
+
+/// What a reading from an id on gives: its pairs, and whether no listed id is left.
+pub type Read = Result<(Vec<(u32, i64)>, bool), Refusal>;
+
+/// The library's lists and the reference's after a call, of which each place must be the same; those after the
+/// pairs, and all where it is refused, as they were.
+#[track_caller]
+fn readout(
+    (ids_len, values_len): (usize, usize),
+    ours: impl FnOnce(&mut [u32], &mut [i64]) -> Result<Readout, Refusal>,
+    theirs: impl FnOnce(&mut [u32], &mut [i64]) -> Result<reference::Readout, reference::Refusal>,
+) -> Read {
+    let before = lists(ids_len, values_len);
+    let (mut given, mut expected) = (before.clone(), before.clone());
+    let result = ours(&mut given.0, &mut given.1);
+    let told = plain(theirs(&mut expected.0, &mut expected.1));
+    let told = told.map(|it| (it.count, it.ended));
+    assert_eq!(result.map(|it| (it.count, it.ended)).map_err(numbers), told);
+    assert!(given == expected, "other places");
+    let count = result.map_or(0, |it| it.count);
+    let unchanged = given.0[count..] == before.0[count..] && given.1[count..] == before.1[count..];
+    assert!(unchanged, "places after the pairs changed");
+    let pairs = given.0.into_iter().zip(given.1).take(count);
+    result.map(|it| (pairs.collect(), it.ended))
+}
+
+/// Reads from an id on, into lists of the given lengths: by the bytes and, where they open, by the opened column.
+#[track_caller]
+pub fn read_from(bytes: &[u8], id: u32, lens: (usize, usize)) -> Read {
+    let result = readout(
+        lens,
+        |ids, values| signalfern::read_from(bytes, id, ids, values),
+        |ids, values| reference::read_from(bytes, id, ids, values),
+    );
+    if let Ok(column) = Column::open(bytes) {
+        let opened = readout(
+            lens,
+            |ids, values| column.read_from(id, ids, values),
+            |ids, values| reference::read_from(bytes, id, ids, values),
+        );
+        assert_eq!(opened, result, "from {id}");
+    }
+    result
+}
+
+/// Reads from an id on by any numbers in any bytes.
+#[track_caller]
+pub fn read_from_in(header: Header, bytes: &[u8], id: u32, lens: (usize, usize)) -> Read {
+    let column = to_reference(header);
+    readout(
+        lens,
+        |ids, values| header.read_from_in(bytes, id, ids, values),
+        |ids, values| reference::read_from_in(&column, bytes, id, ids, values),
+    )
+}
+
+/// Asks for the pair with an ordinal by the bytes and, where they open, by the opened column.
+#[track_caller]
+pub fn pair_at(bytes: &[u8], ordinal: u64) -> Result<Option<Candidate>, Refusal> {
+    let result = signalfern::pair_at(bytes, ordinal).map(candidate);
+    let expected = plain(reference::pair_at(bytes, ordinal));
+    assert_eq!(result.map_err(numbers), expected, "ordinal {ordinal}");
+    if let Ok(column) = Column::open(bytes) {
+        let opened = column.pair_at(ordinal).map(candidate);
+        assert_eq!(opened, result, "ordinal {ordinal}");
+    }
+    result
+}
+
+/// Asks for the pair with an ordinal by any numbers in any bytes.
+#[track_caller]
+pub fn pair_at_in(
+    header: Header,
+    bytes: &[u8],
+    ordinal: u64,
+) -> Result<Option<Candidate>, Refusal> {
+    let result = header.pair_at_in(bytes, ordinal).map(candidate);
+    let expected = reference::pair_at_in(&to_reference(header), bytes, ordinal);
+    assert_eq!(
+        result.map_err(numbers),
+        plain(expected),
+        "{header:?}, ordinal {ordinal}"
+    );
+    result
+}
+
+/// Searches for a value by the bytes and, where they open, by the opened column; from ordinal 0 on is the same.
 #[track_caller]
 pub fn first_between(bytes: &[u8], low: i64, high: i64) -> Result<Option<u64>, Refusal> {
     let result = signalfern::first_between(bytes, low, high);
@@ -254,6 +346,45 @@ pub fn first_between(bytes: &[u8], low: i64, high: i64) -> Result<Option<u64>, R
     if let Ok(column) = Column::open(bytes) {
         assert_eq!(column.first_between(low, high), result, "{low} to {high}");
     }
+    assert_eq!(first_between_from(bytes, 0, low, high), result);
+    result
+}
+
+/// Searches for a value from an ordinal on, by the bytes and, where they open, by the opened column.
+#[track_caller]
+pub fn first_between_from(
+    bytes: &[u8],
+    from: u64,
+    low: i64,
+    high: i64,
+) -> Result<Option<u64>, Refusal> {
+    let result = signalfern::first_between_from(bytes, from, low, high);
+    let expected = plain(reference::first_between_from(bytes, from, low, high));
+    let asked = format!("from {from}: {low} to {high}");
+    assert_eq!(result.map_err(numbers), expected, "{asked}");
+    if let Ok(column) = Column::open(bytes) {
+        let opened = column.first_between_from(from, low, high);
+        assert_eq!(opened, result, "{asked}");
+    }
+    result
+}
+
+/// Searches for a value from an ordinal on, by any numbers in any bytes.
+#[track_caller]
+pub fn first_between_from_in(
+    header: Header,
+    bytes: &[u8],
+    from: u64,
+    (low, high): (i64, i64),
+) -> Result<Option<u64>, Refusal> {
+    let result = header.first_between_from_in(bytes, from, low, high);
+    let column = to_reference(header);
+    let expected = reference::first_between_from_in(&column, bytes, from, low, high);
+    assert_eq!(
+        result.map_err(numbers),
+        plain(expected),
+        "{header:?}, from {from}: {low} to {high}"
+    );
     result
 }
 
@@ -272,6 +403,8 @@ pub fn first_between_in(
         plain(expected),
         "{header:?}, {low} to {high}"
     );
+    let from_0 = first_between_from_in(header, bytes, 0, (low, high));
+    assert_eq!(from_0, result, "{header:?}, {low} to {high}");
     result
 }
 

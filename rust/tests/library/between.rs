@@ -47,6 +47,76 @@ fn as_a_plain_scan_has_it() {
     assert!(told[0] > 300 && told[1] > 300, "{told:?}");
 }
 
+/// From each answer on, up to none: all ordinals of the list with such a value, and from any ordinal the first of them.
+#[test]
+fn from_an_ordinal_on() {
+    let mut random = Random::new(96);
+    let mut told = [0; 2];
+    for count in [0, 1, 3, 16_384, 16_385, 40_000] {
+        let values = some_values(&mut random, count);
+        let column = runs::column(&values);
+        let header = Column::open(&column).unwrap().header();
+        for (low, high) in ranges(&mut random, &values) {
+            let within = |&ordinal: &u64| (low..=high).contains(&values[ordinal as usize]);
+            let listed: Vec<u64> = (0..count as u64).filter(within).collect();
+            let borders = ordinals(count).into_iter().map(|it| it as u64);
+            let past = [count as u64, count as u64 + 1, u64::MAX];
+            for from in borders.chain(past) {
+                let first = listed.get(listed.partition_point(|&it| it < from)).copied();
+                let found = same::first_between_from(&column, from, low, high);
+                assert_eq!(found, Ok(first), "from {from}: {low} to {high}");
+                let opened = same::first_between_from_in(header, &column, from, (low, high));
+                assert_eq!(opened, found);
+                told[usize::from(first.is_some())] += 1;
+            }
+            // All of them, where they are not too many.
+            if listed.len() > 500 {
+                continue;
+            }
+            let opened = Column::open(&column).unwrap();
+            let (mut all, mut from) = (Vec::new(), 0);
+            while let Some(ordinal) = opened.first_between_from(from, low, high).unwrap() {
+                all.push(ordinal);
+                from = ordinal + 1;
+            }
+            assert_eq!(all, listed, "{low} to {high}");
+        }
+    }
+    assert!(told.iter().all(|&count| count > 300), "{told:?}");
+}
+
+/// What lies before the ordinal is not asked: neither a value, nor what the directory says of a run before it.
+#[test]
+fn from_an_ordinal_on_by_other_directories() {
+    let sound = three_runs();
+    let ask = |parts: &Parts, from: usize, low, high| {
+        same::first_between_from(&parts.bytes(), from as u64, low, high)
+    };
+    let run = RUN as u64;
+    assert_eq!(ask(&sound, 5, 5, 5), Ok(Some(5)));
+    assert_eq!(ask(&sound, RUN, 5, 5), Ok(Some(run + 5)));
+    assert_eq!(ask(&sound, RUN + 6, 5, 5), Ok(Some(run + 105)));
+    assert_eq!(ask(&sound, RUN + 6, 1000, 1000), Ok(Some(2 * run)));
+    assert_eq!(ask(&sound, 2 * RUN + 9, 0, 2000), Ok(Some(2 * run + 9)));
+    assert_eq!(ask(&sound, 2 * RUN + 10, 0, 2000), Ok(None));
+    // A width of 65: refused where a value of the run is met, from its last one on too.
+    let broken = with(&sound, 1, Number::Width, 65);
+    for from in [0, RUN - 1, RUN, 2 * RUN - 1] {
+        assert_eq!(ask(&broken, from, 6, 2000), Err(Refusal::Broken));
+        assert_eq!(ask(&broken, from, 100, 2000), Ok(Some(2 * run)));
+    }
+    assert_eq!(ask(&broken, RUN - 1, 5, 5), Ok(Some(run - 1)));
+    assert_eq!(ask(&broken, 2 * RUN, 6, 2000), Ok(Some(2 * run)));
+    // One byte on: the last two of ten numbers of four bits reach past the section.
+    let start = number(&sound, 2, Number::Start);
+    let last = with(&sound, 2, Number::Start, start + 1);
+    assert_eq!(ask(&last, 2 * RUN + 7, 0, 2000), Ok(Some(2 * run + 7)));
+    assert_eq!(ask(&last, 2 * RUN + 8, 0, 2000), Err(Refusal::Broken));
+    assert_eq!(ask(&last, 2 * RUN + 10, 0, 2000), Ok(None));
+    // a > b and an ordinal of n or more before it.
+    assert_eq!(ask(&last, 2 * RUN + 8, 2000, 0), Ok(None));
+}
+
 /// The values at the borders of runs, and all from them on: small ones in steps of 8, and widths of 0 and 64 side by
 /// side, either way round.
 #[test]
@@ -233,6 +303,8 @@ fn what_is_refused_in_which_order() {
                 Err(refusal),
                 "{bytes:02X?}"
             );
+            let far = same::first_between_from(bytes, u64::MAX, low, high);
+            assert_eq!(far, Err(refusal), "{bytes:02X?}");
         }
     };
     for len in 0..9 {

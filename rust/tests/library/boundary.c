@@ -60,6 +60,55 @@ static int pages(void)
     return 0;
 }
 
+static int same_readout(signalfern_readout read, uint64_t kind, uint64_t number, uint64_t count)
+{
+    return read.kind == kind && read.number == number && read.count == count;
+}
+
+static int same_pair(signalfern_pair pair, uint64_t kind, uint64_t number, uint64_t id, uint64_t ordinal, int64_t value)
+{
+    return pair.kind == kind && pair.number == number && pair.id == id && pair.ordinal == ordinal && pair.value == value;
+}
+
+/* Pairs from an id on, and by their ordinals: lists of other lengths, of none, and what a refusal leaves. */
+static int walks(void)
+{
+    PROMISE(sizeof(signalfern_readout) == 24 && offsetof(signalfern_readout, count) == 16);
+    PROMISE(sizeof(signalfern_pair) == 40 && offsetof(signalfern_pair, id) == 16 && offsetof(signalfern_pair, value) == 32);
+    PROMISE(SIGNALFERN_MORE == 0 && SIGNALFERN_ENDED == 1);
+    const uint32_t ids[] = {0, 2, 7}, ids_then[] = {2, 7, 93};
+    const int64_t values[] = {150, 140, 135}, values_then[] = {140, 135, 93, 94};
+    uint8_t bytes[64];
+    size_t len = signalfern_write(ids, 3, values, 3, SIGNALFERN_PLAIN, 9, bytes, sizeof bytes).number;
+    signalfern_column column = signalfern_open(bytes, len);
+    uint32_t some[] = {91, 92, 93};
+    int64_t scores[] = {91, 92, 93, 94};
+    /* Refused, of no bytes at all and of a column that does not fit: nothing is written. */
+    PROMISE(same_readout(signalfern_read_from(NULL, 0, 0, some, 3, scores, 4), SIGNALFERN_SHORT, 0, 0));
+    PROMISE(same_readout(signalfern_read_from(bytes, len, SIGNALFERN_MAX_ID + 1, some, 3, scores, 4), SIGNALFERN_ID, 0, 0));
+    PROMISE(same_readout(signalfern_read_from_in(column, bytes, len - 1, 0, some, 3, scores, 4), SIGNALFERN_LENGTH, 0, 0));
+    PROMISE(same_pair(signalfern_pair_at(bytes, 1, 0), SIGNALFERN_SHORT, 1, 0, 0, 0));
+    PROMISE(same_pair(signalfern_pair_at_in(column, bytes, len - 1, 0), SIGNALFERN_LENGTH, 0, 0, 0, 0));
+    PROMISE(some[0] == 91 && scores[0] == 91);
+    /* No places: whether a listed id is left. */
+    PROMISE(same_readout(signalfern_read_from(bytes, len, 7, NULL, 0, NULL, 0), SIGNALFERN_MORE, 0, 0));
+    PROMISE(same_readout(signalfern_read_from_in(column, bytes, len, 8, NULL, 0, scores, 4), SIGNALFERN_ENDED, 0, 0));
+    PROMISE(same_readout(signalfern_read_from(bytes, len, 1, some, 3, scores, 4), SIGNALFERN_ENDED, 0, 2));
+    PROMISE(memcmp(some, ids_then, sizeof some) == 0 && memcmp(scores, values_then, sizeof scores) == 0);
+    PROMISE(same_readout(signalfern_read_from_in(column, bytes, len, 0, some, 3, scores, 1), SIGNALFERN_MORE, 0, 1));
+    PROMISE(some[0] == 0 && some[1] == 7 && scores[0] == 150 && scores[1] == 135);
+    PROMISE(same_pair(signalfern_pair_at(bytes, len, 2), SIGNALFERN_FOUND, 0, 7, 2, 135));
+    PROMISE(same_pair(signalfern_pair_at_in(column, bytes, len, 1), SIGNALFERN_FOUND, 0, 2, 1, 140));
+    PROMISE(same_pair(signalfern_pair_at(bytes, len, UINT64_MAX), SIGNALFERN_NONE, 0, 0, 0, 0));
+
+    len = signalfern_write(ids, 3, values, 3, SIGNALFERN_RUNS, 9, bytes, sizeof bytes).number;
+    signalfern_between found = signalfern_first_between_from(bytes, len, 1, 130, 150);
+    PROMISE(found.kind == SIGNALFERN_FOUND && found.number == 0 && found.ordinal == 1);
+    found = signalfern_first_between_from_in(signalfern_open(bytes, len), bytes, len, 3, 130, 150);
+    PROMISE(found.kind == SIGNALFERN_NONE && found.number == 0 && found.ordinal == 0);
+    return 0;
+}
+
 /* The editions: what the writer is told, and what a column of each is. Stored are 3, 1 and 0. */
 static int editions(void)
 {
@@ -611,6 +660,6 @@ int main(void)
     refused.refusal = SIGNALFERN_LENGTH;
     PROMISE(memcmp(&column, &refused, sizeof column) == 0);
     PROMISE(same_answer(signalfern_look_up_in(column, out, len, 4), SIGNALFERN_HEADER, 0, 0, 0, 0));
-    return editions() || plans() || pages() || next_candidates() || between() || corrections() || refused_columns() ||
+    return editions() || plans() || pages() || walks() || next_candidates() || between() || corrections() || refused_columns() ||
            sets() || sections() || whole_answers();
 }

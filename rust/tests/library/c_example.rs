@@ -94,6 +94,18 @@ from 0 to 9: refused, EDITION
 }
 
 #[test]
+fn the_example_of_a_walk() {
+    let printed = build_and_run(Path::new("examples/walk.c"), &["-std=c99"]);
+    // 0 to 9 a hundred times, by 64 of 1000; ten times, by 64 and 36 of a full 64.
+    let expected = "\
+1000 scores add up to 4500, in 16 calls
+100 scores add up to 450, in 2 calls
+the last is id 2997 with 9
+";
+    assert_eq!(printed, expected);
+}
+
+#[test]
 fn the_example_of_a_plan() {
     let printed = build_and_run(Path::new("examples/plan.c"), &["-std=c99"]);
     // Three entries of 8 bytes and 1000 codes of 2 bits; without a table 30 bits for each.

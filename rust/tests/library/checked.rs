@@ -1,5 +1,8 @@
 //! A checked column asked and walked over: beside the list, the proved reading and the reference.
 
+use std::collections::BTreeMap;
+use std::ops::Bound::{Excluded, Included, Unbounded};
+
 use crate::common::parts::Parts;
 use crate::common::{
     block_ids, few_ids, ids_of, same, values_of_width, Random, BLOCK_COUNTS, EDITIONS, POWERS,
@@ -20,7 +23,7 @@ impl Listed {
     }
 
     /// The pairs from an index on.
-    fn pairs(&self, index: usize) -> impl Iterator<Item = (u32, i64)> + '_ {
+    fn pairs(&self, index: usize) -> impl Iterator<Item = (u32, i64)> + Clone + '_ {
         let ids = self.ids[index..].iter().copied();
         ids.zip(self.values[index..].iter().copied())
     }
@@ -38,6 +41,8 @@ impl Listed {
                 walk.take(most).eq(self.pairs(index).take(most)),
                 "from {id}"
             );
+            let at = self.ids.get(index).map(|&id| (id, self.values[index]));
+            assert_eq!(column.nth(index), at, "ordinal {index}");
             let value = (self.ids.get(index) == Some(&id)).then(|| self.values[index]);
             assert_eq!(column.get(id), value, "id {id}");
             assert_eq!(column.contains(id), value.is_some(), "id {id}");
@@ -147,6 +152,113 @@ fn many_short_lists() {
     }
 }
 
+/// By any bounds, as a map has them; but where the start is above the end there is none.
+#[test]
+fn ranges_of_ids() {
+    let mut random = Random::new(44);
+    for round in 0..300 {
+        let ids = match round % 3 {
+            0 => few_ids(&mut random, 300),
+            1 => block_ids(&mut random, 1, 4500),
+            _ => ids_of(&mut random, &[(0, 300), (1, 5000), (3, 65_536), (9, 2)]),
+        };
+        let values = values_of_width(&mut random, ids.len(), 9);
+        let (edition, power) = (random.pick(&EDITIONS), random.pick(&POWERS));
+        let listed = Listed::new(ids, values, edition, power);
+        let column = Checked::new(&listed.bytes).unwrap();
+        let map: BTreeMap<u32, i64> = listed.pairs(0).collect();
+        assert_eq!(
+            column.first(),
+            map.first_key_value().map(|(&id, &it)| (id, it))
+        );
+        assert_eq!(
+            column.last(),
+            map.last_key_value().map(|(&id, &it)| (id, it))
+        );
+        for _ in 0..10 {
+            let mut any = || match random.below(5) {
+                0 => random.below(700_000) as u32,
+                1 => random.pick(&[0, 1, 65_535, 65_536, 131_072, MAX_ID, MAX_ID + 1, u32::MAX]),
+                _ if listed.ids.is_empty() => 7,
+                _ => random.pick(&listed.ids) + random.below(2) as u32,
+            };
+            let (a, b) = (any(), any());
+            let (low, high) = (a.min(b), a.max(b));
+            let bounds = [
+                (Included(low), Excluded(high)),
+                (Included(low), Included(high)),
+                (Unbounded, Excluded(high)),
+                (Unbounded, Included(high)),
+                (Included(low), Unbounded),
+                (Unbounded, Unbounded),
+            ];
+            for bounds in bounds {
+                let walk = column.range(bounds);
+                let expected = map.range(bounds).map(|(&id, &value)| (id, value));
+                assert_eq!(walk.len(), expected.clone().count(), "{bounds:?}");
+                assert_eq!(
+                    walk.clone().last(),
+                    expected.clone().next_back(),
+                    "{bounds:?}"
+                );
+                assert!(walk.eq(expected), "{bounds:?}");
+            }
+            if low < high {
+                assert_eq!(column.range(high..low).next(), None);
+                let between = map.range((Excluded(low), Excluded(high)));
+                let walk = column.range((Excluded(low), Excluded(high)));
+                assert!(walk.eq(between.map(|(&id, &value)| (id, value))));
+            }
+        }
+    }
+    let listed = Listed::new(vec![MAX_ID], vec![8], Edition::Plain, 9);
+    let column = Checked::new(&listed.bytes).unwrap();
+    assert!(column.range(MAX_ID..=u32::MAX).eq([(MAX_ID, 8)]));
+    assert!(column.range((Excluded(u32::MAX), Unbounded)).eq([]));
+    assert!(column.range(..MAX_ID).eq([]));
+}
+
+/// Pairs left out on the way: by `nth`, and by what goes by it.
+#[test]
+fn pairs_are_left_out_by_their_ordinals() {
+    let mut random = Random::new(45);
+    for round in 0..60 {
+        let ids = match round % 3 {
+            0 => few_ids(&mut random, 1000),
+            1 => block_ids(&mut random, 0, 60_000),
+            _ => ids_of(&mut random, &[(2, 4000), (3, 5000), (4, 65_536), (900, 2)]),
+        };
+        let values = values_of_width(&mut random, ids.len(), 9);
+        let (edition, power) = (random.pick(&EDITIONS), random.pick(&POWERS));
+        let listed = Listed::new(ids, values, edition, power);
+        let column = Checked::new(&listed.bytes).unwrap();
+        let count = listed.ids.len();
+        for _ in 0..20 {
+            let from = random.below(700_000) as u32;
+            let index = listed.ids.partition_point(|&id| id < from);
+            let (mut walk, mut list) = (column.iter_from(from), listed.pairs(index));
+            loop {
+                let n = match random.below(4) {
+                    0 => random.below(count + 2),
+                    1 => random.pick(&[0, 1, 63, 64, 65, 127, 128, 129, 255, 256, 257]),
+                    _ => random.below(40),
+                };
+                let pair = list.nth(n);
+                assert_eq!(walk.nth(n), pair, "{n} on");
+                assert_eq!(walk.len(), list.size_hint().0);
+                if pair.is_none() {
+                    break;
+                }
+                assert_eq!(walk.clone().next(), list.clone().next());
+            }
+            assert_eq!((walk.next(), walk.nth(9), walk.last()), (None, None, None));
+            let (skip, step) = (random.below(count + 9), 1 + random.below(2000));
+            let walk = column.iter_from(from).skip(skip).step_by(step);
+            assert!(walk.eq(listed.pairs(index).skip(skip).step_by(step)));
+        }
+    }
+}
+
 #[test]
 fn the_walk_tells_what_is_left() {
     let listed = Listed::new(vec![1, 70_000, 70_001], vec![5, -5, 0], Edition::Lucene, 9);
@@ -176,6 +288,20 @@ fn every_id_that_there_is() {
         assert!(walk.take(10).eq((first..first + 10).map(|id| (id, 42))));
     }
     assert_eq!(column.iter_from(MAX_ID).last(), Some((MAX_ID, 42)));
+    // Straight to the pair: by a walk, each of these would take seconds.
+    for ordinal in [0, 65_535, 65_536, 1 << 30, MAX_ID] {
+        assert_eq!(column.nth(ordinal as usize), Some((ordinal, 42)));
+        let mut walk = column.iter();
+        assert_eq!(walk.nth(ordinal as usize), Some((ordinal, 42)));
+        let after = (ordinal < MAX_ID).then_some((ordinal + 1, 42));
+        assert_eq!(walk.next(), after);
+    }
+    assert_eq!(
+        (column.first(), column.last()),
+        (Some((0, 42)), Some((MAX_ID, 42)))
+    );
+    assert_eq!(column.nth(MAX_ID as usize + 1), None);
+    assert_eq!(column.iter().step_by(1 << 29).count(), 4);
     assert_eq!(column.iter_from(MAX_ID + 1).next(), None);
 }
 

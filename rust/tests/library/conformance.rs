@@ -33,6 +33,11 @@ fn candidate(
     Ok(found.map(|it| (it.id, it.ordinal, it.value)))
 }
 
+fn readout(read: Result<signalfern::Readout, Refusal>) -> Result<(u64, bool), Refused> {
+    let read = read.map_err(refused)?;
+    Ok((read.count as u64, read.ended))
+}
+
 fn header(numbers: &Header) -> signalfern::Header {
     let mut header = signalfern::Header::default();
     header.edition = numbers.edition;
@@ -242,8 +247,32 @@ impl Maker for Library {
         candidate(next)
     }
 
+    fn read_from(
+        &self,
+        bytes: &[u8],
+        id: u32,
+        ids: &mut [u32],
+        values: &mut [i64],
+    ) -> Result<(u64, bool), Refused> {
+        readout(signalfern::read_from(bytes, id, ids, values))
+    }
+
+    fn pair_at(&self, bytes: &[u8], ordinal: u64) -> Result<Option<(u32, u64, i64)>, Refused> {
+        candidate(signalfern::pair_at(bytes, ordinal))
+    }
+
     fn first_between(&self, bytes: &[u8], low: i64, high: i64) -> Result<Option<u64>, Refused> {
         signalfern::first_between(bytes, low, high).map_err(refused)
+    }
+
+    fn first_between_from(
+        &self,
+        bytes: &[u8],
+        from: u64,
+        low: i64,
+        high: i64,
+    ) -> Result<Option<u64>, Refused> {
+        signalfern::first_between_from(bytes, from, low, high).map_err(refused)
     }
 
     fn look_up_layered(
@@ -336,6 +365,38 @@ impl Maker for Library {
         let next = header(numbers).next_in(&mut from, bytes, target);
         *cursor = from.last();
         candidate(next)
+    }
+
+    fn read_from_in(
+        &self,
+        numbers: &Header,
+        bytes: &[u8],
+        id: u32,
+        ids: &mut [u32],
+        values: &mut [i64],
+    ) -> Result<(u64, bool), Refused> {
+        readout(header(numbers).read_from_in(bytes, id, ids, values))
+    }
+
+    fn pair_at_in(
+        &self,
+        numbers: &Header,
+        bytes: &[u8],
+        ordinal: u64,
+    ) -> Result<Option<(u32, u64, i64)>, Refused> {
+        candidate(header(numbers).pair_at_in(bytes, ordinal))
+    }
+
+    fn first_between_from_in(
+        &self,
+        numbers: &Header,
+        bytes: &[u8],
+        from: u64,
+        low: i64,
+        high: i64,
+    ) -> Result<Option<u64>, Refused> {
+        let between = header(numbers).first_between_from_in(bytes, from, low, high);
+        between.map_err(refused)
     }
 
     fn first_between_in(

@@ -163,6 +163,34 @@ fn the_next_candidate() {
     assert_eq!(next(10), Ok(None));
 }
 
+/// What the page says of pairs from an id on, and of the pair with an ordinal.
+#[test]
+fn pairs_from_an_id_on_and_by_their_ordinals() {
+    let column = taken_apart().swap_remove(0);
+    let read = |bytes: &[u8], id| same::read_from(bytes, id, (2, 2)).unwrap();
+    assert!(PAGE.contains(
+        "from 1 on into two places come 2 with 140 and 7 with 135, and no listed id is left; from 0 on there come 0 with \
+         150 and 2 with 140, and there is more."
+    ));
+    assert_eq!(read(&column, 1), (vec![(2, 140), (7, 135)], true));
+    assert_eq!(read(&column, 0), (vec![(0, 150), (2, 140)], false));
+    assert!(PAGE.contains("With byte 14, the place 0, turned to `09`, the entries are 9, 2, 7: from 0 on comes 9 with 150, and no listed id is left."));
+    let mut entries = column.clone();
+    assert_eq!(entries[14], 0);
+    entries[14] = 9;
+    assert_eq!(read(&entries, 0), (vec![(9, 150)], true));
+    assert!(PAGE.contains("ordinal 1 is id 2 with 140, and ordinal 3 has none."));
+    let pair = same::pair_at(&column, 1).unwrap().unwrap();
+    assert_eq!((pair.id, pair.value), (2, 140));
+    assert_eq!(same::pair_at(&column, 3), Ok(None));
+    assert!(PAGE.contains(
+        "From ordinal 2 on, 0 to 5 finds ordinal 2 in the column above, and from ordinal 3 on none."
+    ));
+    let runs = taken_apart().swap_remove(4);
+    assert_eq!(same::first_between_from(&runs, 2, 0, 5), Ok(Some(2)));
+    assert_eq!(same::first_between_from(&runs, 3, 0, 5), Ok(None));
+}
+
 /// The sizes that the page tells of edition 3, and its directory of one run.
 #[test]
 fn runs_with_a_summary() {

@@ -202,7 +202,7 @@ fn the_shared_library_shows_what_the_header_declares() {
         // Those that hand an answer back are inline, over a call that writes it.
         .filter(|name| !header.contains(&format!("{name}_to(")))
         .collect();
-    assert_eq!(declared.len(), 27, "{declared:?}");
+    assert_eq!(declared.len(), 33, "{declared:?}");
     // Each proved call has a manual page, under its own name and under that of the one that hands the answer back.
     let pages = files(&Path::new(&prefix).join("share/man/man3"));
     for call in declared.iter().filter(|name| name.ends_with("_to")) {

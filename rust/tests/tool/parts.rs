@@ -4,7 +4,7 @@ use std::time::{Duration, Instant};
 
 use crate::common::parts::Parts;
 use crate::common::tool::{has_program, has_programs, run, Folder};
-use crate::common::{ids_of, values_of_width, Random};
+use crate::common::{ids_of, values_of_width, Random, EDITIONS, POWERS};
 use signalfern::Edition;
 
 fn lines(pairs: &[(u32, i64)]) -> String {
@@ -39,19 +39,30 @@ fn ranges_are_parts_of_the_whole() {
         (6, 60_000),
         (9, 1),
     ];
-    for blocks in [&many[..], &[(0, 5000)], &[(3, 65_536)], &[]] {
+    let lists = [
+        &many[..],
+        &many,
+        &many,
+        &many,
+        &[(0, 5000)],
+        &[(3, 65_536)],
+        &[],
+    ];
+    for (round, blocks) in lists.into_iter().enumerate() {
         let ids = ids_of(&mut random, blocks);
         let values = values_of_width(&mut random, ids.len(), 11);
-        let column = folder.column("column", &ids, &values);
+        let edition = EDITIONS[round % 4];
+        let bytes = signalfern::write_to_vec(&ids, &values, edition, random.pick(&POWERS));
+        let column = folder.put("column", bytes.unwrap());
         let pairs: Vec<(u32, i64)> = ids.into_iter().zip(values).collect();
         let whole = run(&["read", &column]).expect(0, &[]).out;
         assert!(whole == lines(&pairs), "read whole");
-        // No limit that is ever reached: the slow way gives what the fast one does.
-        let slow = run(&["read", &column, "--limit", "99999999"])
-            .expect(0, &[])
-            .out;
-        assert!(slow == whole, "read one after another");
-        for _ in 0..12 {
+        // A limit that is not reached, and one that is just reached.
+        for limit in [99_999_999, pairs.len()] {
+            let limited = run(&["read", &column, "--limit", &limit.to_string()]);
+            assert!(limited.expect(0, &[]).out == whole, "limit {limit}");
+        }
+        for _ in 0..8 {
             try_range(&mut random, &column, &pairs);
         }
     }

@@ -2,7 +2,9 @@
 
 use crate::given::{number, object, text};
 use crate::recipe::{self, field};
-use crate::reply::{bytes, column, counted, layered, list, looked, opened, ordinal, refused, with};
+use crate::reply::{
+    bytes, candidate, column, counted, layered, list, looked, opened, ordinal, refused, with,
+};
 use crate::{Header, Json, Judged, Maker, BEFORE};
 
 /// The reply of a maker to a call with these arguments.
@@ -21,7 +23,10 @@ pub fn answer(maker: &dyn Maker, call: &str, given: &Json) -> Json {
         "look_up" => looked(maker.look_up(&asked.bytes("bytes"), asked.id("id"))),
         "look_up_page" => asked.look_up_page(),
         "next" => asked.next(None),
+        "read_from" => asked.read_from(None),
+        "pair_at" => asked.pair_at(None),
         "first_between" => asked.first_between(None),
+        "first_between_from" => asked.first_between_from(None),
         "look_up_layered" => {
             let (machine, correction) = (asked.bytes("machine"), asked.bytes("correction"));
             layered(maker.look_up_layered(&machine, &correction, asked.id("id")))
@@ -40,7 +45,10 @@ pub fn answer(maker: &dyn Maker, call: &str, given: &Json) -> Json {
             looked(maker.look_up_in(&header, &asked.bytes("bytes"), asked.id("id")))
         }
         "next_in" => asked.next(Some(asked.header("column"))),
+        "read_from_in" => asked.read_from(Some(asked.header("column"))),
+        "pair_at_in" => asked.pair_at(Some(asked.header("column"))),
         "first_between_in" => asked.first_between(Some(asked.header("column"))),
+        "first_between_from_in" => asked.first_between_from(Some(asked.header("column"))),
         "look_up_layered_in" => {
             let (machine, correction) = (asked.bytes("machine"), asked.bytes("correction"));
             let headers = [
@@ -180,17 +188,35 @@ impl Asked<'_> {
             None => self.maker.next(&mut cursor, &given, target),
             Some(header) => self.maker.next_in(&header, &mut cursor, &given, target),
         };
+        with(candidate(reply), [("cursor", number(cursor))])
+    }
+
+    fn read_from(&self, header: Option<Header>) -> Json {
+        let (mut ids, mut values) = (self.lent("ids_room"), self.lent("values_room"));
+        let (given, id) = (self.bytes("bytes"), self.id("id"));
+        let lists = (&mut ids[..], &mut values[..]);
+        let reply = match header {
+            None => self.maker.read_from(&given, id, lists.0, lists.1),
+            Some(header) => self
+                .maker
+                .read_from_in(&header, &given, id, lists.0, lists.1),
+        };
         let reply = match reply {
-            Ok(Some((id, ordinal, value))) => object([
-                ("kind", text("found")),
-                ("id", number(id)),
-                ("ordinal", number(ordinal)),
-                ("value", number(value)),
+            Ok((count, ended)) => object([
+                ("kind", text(if ended { "ended" } else { "more" })),
+                ("number", number(count)),
             ]),
-            Ok(None) => object([("kind", text("none"))]),
             Err(it) => refused(it),
         };
-        with(reply, [("cursor", number(cursor))])
+        with(reply, [("ids", list(&ids)), ("values", list(&values))])
+    }
+
+    fn pair_at(&self, header: Option<Header>) -> Json {
+        let (given, ordinal) = (self.bytes("bytes"), self.number("ordinal"));
+        candidate(match header {
+            None => self.maker.pair_at(&given, ordinal),
+            Some(header) => self.maker.pair_at_in(&header, &given, ordinal),
+        })
     }
 
     fn first_between(&self, header: Option<Header>) -> Json {
@@ -198,6 +224,18 @@ impl Asked<'_> {
         let reply = match header {
             None => self.maker.first_between(&given, low, high),
             Some(header) => self.maker.first_between_in(&header, &given, low, high),
+        };
+        ordinal(reply, "none")
+    }
+
+    fn first_between_from(&self, header: Option<Header>) -> Json {
+        let (given, from) = (self.bytes("bytes"), self.number("from"));
+        let (low, high) = (self.number("low"), self.number("high"));
+        let reply = match header {
+            None => self.maker.first_between_from(&given, from, low, high),
+            Some(header) => self
+                .maker
+                .first_between_from_in(&header, &given, from, low, high),
         };
         ordinal(reply, "none")
     }

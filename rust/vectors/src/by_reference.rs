@@ -34,6 +34,11 @@ fn candidate(next: reference::Next) -> Result<Option<(u32, u64, i64)>, Refused> 
     Ok(found.map(|it| (it.id, it.ordinal, it.value)))
 }
 
+fn readout(read: Result<reference::Readout, Refusal>) -> Result<(u64, bool), Refused> {
+    let read = read.map_err(refused)?;
+    Ok((read.count as u64, read.ended))
+}
+
 fn is_correction(layer: Layer) -> bool {
     layer == Layer::Correction
 }
@@ -137,8 +142,32 @@ impl Maker for Reference {
         candidate(reference::next(cursor, bytes, target))
     }
 
+    fn read_from(
+        &self,
+        bytes: &[u8],
+        id: u32,
+        ids: &mut [u32],
+        values: &mut [i64],
+    ) -> Result<(u64, bool), Refused> {
+        readout(reference::read_from(bytes, id, ids, values))
+    }
+
+    fn pair_at(&self, bytes: &[u8], ordinal: u64) -> Result<Option<(u32, u64, i64)>, Refused> {
+        candidate(reference::pair_at(bytes, ordinal))
+    }
+
     fn first_between(&self, bytes: &[u8], low: i64, high: i64) -> Result<Option<u64>, Refused> {
         reference::first_between(bytes, low, high).map_err(refused)
+    }
+
+    fn first_between_from(
+        &self,
+        bytes: &[u8],
+        from: u64,
+        low: i64,
+        high: i64,
+    ) -> Result<Option<u64>, Refused> {
+        reference::first_between_from(bytes, from, low, high).map_err(refused)
     }
 
     fn look_up_layered(
@@ -216,6 +245,39 @@ impl Maker for Reference {
         target: u32,
     ) -> Result<Option<(u32, u64, i64)>, Refused> {
         candidate(reference::next_in(&column(header), cursor, bytes, target))
+    }
+
+    fn read_from_in(
+        &self,
+        header: &Header,
+        bytes: &[u8],
+        id: u32,
+        ids: &mut [u32],
+        values: &mut [i64],
+    ) -> Result<(u64, bool), Refused> {
+        let column = column(header);
+        readout(reference::read_from_in(&column, bytes, id, ids, values))
+    }
+
+    fn pair_at_in(
+        &self,
+        header: &Header,
+        bytes: &[u8],
+        ordinal: u64,
+    ) -> Result<Option<(u32, u64, i64)>, Refused> {
+        candidate(reference::pair_at_in(&column(header), bytes, ordinal))
+    }
+
+    fn first_between_from_in(
+        &self,
+        header: &Header,
+        bytes: &[u8],
+        from: u64,
+        low: i64,
+        high: i64,
+    ) -> Result<Option<u64>, Refused> {
+        let column = column(header);
+        reference::first_between_from_in(&column, bytes, from, low, high).map_err(refused)
     }
 
     fn first_between_in(

@@ -91,7 +91,24 @@ pub trait Maker {
         bytes: &[u8],
         target: u32,
     ) -> Result<Option<(u32, u64, i64)>, Refused>;
+    /// Gives how many pairs were placed, and whether no listed id is left.
+    fn read_from(
+        &self,
+        bytes: &[u8],
+        id: u32,
+        ids: &mut [u32],
+        values: &mut [i64],
+    ) -> Result<(u64, bool), Refused>;
+    /// Gives id, ordinal and value.
+    fn pair_at(&self, bytes: &[u8], ordinal: u64) -> Result<Option<(u32, u64, i64)>, Refused>;
     fn first_between(&self, bytes: &[u8], low: i64, high: i64) -> Result<Option<u64>, Refused>;
+    fn first_between_from(
+        &self,
+        bytes: &[u8],
+        from: u64,
+        low: i64,
+        high: i64,
+    ) -> Result<Option<u64>, Refused>;
     /// A refusal has whether it is the correction's.
     fn look_up_layered(
         &self,
@@ -113,10 +130,32 @@ pub trait Maker {
         bytes: &[u8],
         target: u32,
     ) -> Result<Option<(u32, u64, i64)>, Refused>;
+    fn read_from_in(
+        &self,
+        header: &Header,
+        bytes: &[u8],
+        id: u32,
+        ids: &mut [u32],
+        values: &mut [i64],
+    ) -> Result<(u64, bool), Refused>;
+    fn pair_at_in(
+        &self,
+        header: &Header,
+        bytes: &[u8],
+        ordinal: u64,
+    ) -> Result<Option<(u32, u64, i64)>, Refused>;
     fn first_between_in(
         &self,
         header: &Header,
         bytes: &[u8],
+        low: i64,
+        high: i64,
+    ) -> Result<Option<u64>, Refused>;
+    fn first_between_from_in(
+        &self,
+        header: &Header,
+        bytes: &[u8],
+        from: u64,
         low: i64,
         high: i64,
     ) -> Result<Option<u64>, Refused>;

@@ -33,7 +33,7 @@ const REASONS: [&str; 8] = [
 ];
 
 /// What a maker may conform as, and the calls of each.
-const CLASSES: [(&str, &[&str]); 5] = [
+const CLASSES: [(&str, &[&str]); 7] = [
     ("writer", &["write", "write_planned", "plan"]),
     (
         "reader",
@@ -59,6 +59,11 @@ const CLASSES: [(&str, &[&str]); 5] = [
             "first_between_in",
             "look_up_layered_in",
         ],
+    ),
+    ("walker", &["read_from", "pair_at", "first_between_from"]),
+    (
+        "opened_walker",
+        &["read_from_in", "pair_at_in", "first_between_from_in"],
     ),
 ];
 

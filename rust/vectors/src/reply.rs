@@ -34,6 +34,20 @@ pub fn counted(reply: Result<u64, Refused>) -> Json {
     }
 }
 
+/// A pair, or none.
+pub fn candidate(reply: Result<Option<(u32, u64, i64)>, Refused>) -> Json {
+    match reply {
+        Ok(Some((id, ordinal, value))) => object([
+            ("kind", text("found")),
+            ("id", number(id)),
+            ("ordinal", number(ordinal)),
+            ("value", number(value)),
+        ]),
+        Ok(None) => object([("kind", text("none"))]),
+        Err(it) => refused(it),
+    }
+}
+
 pub fn ordinal(reply: Result<Option<u64>, Refused>, otherwise: &str) -> Json {
     match reply {
         Ok(Some(ordinal)) => object([("kind", text("found")), ("ordinal", number(ordinal))]),

@@ -61,6 +61,9 @@ fn each_refusal_of_each_call() {
         ("look_up_page", vec![12]),
         ("next", [&look_up[..], &[16]].concat()),
         ("first_between", [&open[..], &[15]].concat()),
+        ("read_from", look_up.clone()),
+        ("pair_at", [&open[..], &[15]].concat()),
+        ("first_between_from", [&open[..], &[15]].concat()),
         ("look_up_layered", look_up),
         ("set_write", vec![3, 4, 6]),
         ("set_check", vec![7, 8, 13]),
@@ -70,6 +73,9 @@ fn each_refusal_of_each_call() {
         ("look_up_in", vec![10, 11, 14, 15]),
         ("next_in", vec![10, 11, 14, 15, 16]),
         ("first_between_in", vec![9, 10, 11, 15]),
+        ("read_from_in", vec![10, 11, 14, 15]),
+        ("pair_at_in", vec![10, 11, 15]),
+        ("first_between_from_in", vec![9, 10, 11, 15]),
         ("look_up_layered_in", vec![10, 11, 14, 15]),
     ] {
         let refusals = BTreeSet::from_iter(refusals);

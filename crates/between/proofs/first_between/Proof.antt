@@ -1,54 +1,18 @@
--- `between::first_between` meets its contract: an opened column is asked as it is. Assumes nothing.
-use Rattle.format.specs.Kit.{_≡_, sym, ap₂, _∙_, List, [], _∷_, ℕ, ℤ, needs}
-use Rattle.format.specs.Refusals.{refused, andThen}
-use Rattle.format.specs.Editions.{runs, editions}
-use Rattle.format.specs.Opening.{openColumn}
-use Rattle.format.specs.FirstBetween.{firstBetween, firstBetweenIn}
-use Rattle.laws.proofs.FirstBetween.{opened-between}
+-- `between::first_between` meets its contract. Assumes nothing.
+use Rattle.format.specs.Kit.{ap₂, _∙_, ℤ, needs}
+use Rattle.format.specs.BetweenFrom.{firstBetweenFrom}
+use Rattle.laws.proofs.BetweenFrom.{between-from-zero}
 use Rattle.signed.proofs.Signs.{read-back}
-use Rattle.column.specs.Opened.{columnOf}
-use Rattle.column.proofs.Facts.{opened-as, refused-as}
 use Rattle.between.proofs.first_between.Statement.{statement}
 use Rattle.between.proofs.first_between.Tie as tie
 
--- what opening refuses, the question refuses
-not-opened : (bytes : List ℕ) (a b : ℤ) (why w : ℕ) → openColumn (runs ∷ []) bytes ≡ refused why w → firstBetween bytes a b ≡ refused why w
-unfolding firstBetween andThen
-not-opened bytes a b why w e = rw e
-
 returns : tie.Need-returns
 returns c =
-    let a = c .before .before .before .args in
-    sym (not-opened (a .bytes .now) (a .low) (a .high) _ _ (rw (c .if1 .taken) at (c .before .other-edition .ensures)))
-
-returns-2 : tie.Need-returns-2
-returns-2 c =
-    let g = c .before .before .before .before in
-    let a = g .before .before .before .args in
-    let o = c .before .before .before .«open» in
-    let k = c .before .opened .given in
-    sym (not-opened (a .bytes .now) (a .low) (a .high) _ _
-    ((rw (g .if1 .left) at (g .before .other-edition .ensures)) ∙ refused-as (a .bytes .now) (o .result) (k .0 .0) (o .ensures) (k .1)))
-
-returns-3 : tie.Need-returns-3
-returns-3 c =
-    let t = c .before in
-    let g = t .before .before .before .before in
-    let s = g .before .before .before in
+    let s = c .before .before in
     let a = s .args in
-    let o = t .before .before .before .«open» in
-    let k = t .before .opened2 .given in
-    c .first-between-in .ensures
-    ∙ ap₂ (λ (x y : ℤ). firstBetweenIn (a .bytes .now) (columnOf (k .0 .0)) x y) (read-back (a .low) (s .fits .low .sfits))
-    (read-back (a .high) (s .fits .high .sfits))
-    ∙ opened-between editions (a .bytes .now) (columnOf (k .0 .0)) (a .low) (a .high) (opened-as _ (o .result) (k .0 .0) (o .ensures) (k .1))
+    c .first-between-from .ensures
+    ∙ ap₂ (λ (x y : ℤ). firstBetweenFrom (a .bytes .now) 0 x y) (read-back (a .low) (s .fits .low .sfits)) (read-back (a .high) (s .fits .high .sfits))
+    ∙ between-from-zero (a .bytes .now) (a .low) (a .high)
 
 pub first-between-spec : {M : Type 1} → statement M
-first-between-spec =
-    tie.close (tie.spec
-    (λ c κs. search needs)
-    returns
-    (λ c κs. search needs) (λ c. search needs) (λ c. search needs)
-    (λ c κs. search needs)
-    returns-2
-    returns-3)
+first-between-spec = tie.close (tie.spec (λ c κs. search needs) returns)

@@ -3,10 +3,10 @@
 use super::*;
 
 /// The blocks from this one on are so few that each of their ids can be tried.
-const HIGH: u32 = 32_762;
+pub(super) const HIGH: u32 = 32_762;
 
 /// Pairs in the last blocks that there can be, of every kind.
-fn high_pairs(random: &mut Random) -> BTreeMap<u32, i64> {
+pub(super) fn high_pairs(random: &mut Random) -> BTreeMap<u32, i64> {
     let mut pairs = BTreeMap::new();
     for number in HIGH..=MAX_ID >> 16 {
         let (first, end) = match random.below(3) {
@@ -23,7 +23,7 @@ fn high_pairs(random: &mut Random) -> BTreeMap<u32, i64> {
 }
 
 /// Changes a byte of a head, of the data, of the end block or of a jump entry.
-fn damage(random: &mut Random, bytes: &mut [u8]) {
+pub(super) fn damage(random: &mut Random, bytes: &mut [u8]) {
     let column = open(bytes).expect("only the sections were changed");
     let (start, section) = (column.start as usize, column.id_bytes as usize);
     let blocks = section - 8 * column.jump_count as usize;

@@ -1,4 +1,5 @@
-//! The blocks of an id section, one after another; of a damaged one, as far as they make sense.
+//! The blocks of an id section, one after another, as the tool reads them to show or to explain a column; of a
+//! damaged one, as far as they make sense. No id and no value that it tells comes from here.
 
 use crate::header::Header;
 
@@ -166,30 +167,6 @@ impl<'a> Section<'a> {
             u64::from(u32::from_le_bytes(bytes))
         };
         Some((int(0), int(4)))
-    }
-}
-
-/// The places of a block in ascending order, from its data.
-pub fn places<'a>(block: &Block, data: &'a [u8]) -> Box<dyn Iterator<Item = u32> + 'a> {
-    match block.kind {
-        Kind::Sparse => Box::new(
-            data.chunks_exact(2)
-                .map(|pair| u32::from(u16::from_le_bytes([pair[0], pair[1]]))),
-        ),
-        Kind::Dense => {
-            let ranks = data.len().saturating_sub(BITMAP as usize);
-            let words = data[ranks..].chunks_exact(8).zip(0..);
-            Box::new(words.flat_map(|(bytes, index): (&[u8], u32)| {
-                let mut word = long(bytes);
-                std::iter::from_fn(move || {
-                    let place = 64 * index + word.trailing_zeros();
-                    let there = word != 0;
-                    word &= word.wrapping_sub(1);
-                    there.then_some(place)
-                })
-            }))
-        }
-        Kind::All => Box::new(0..65_536),
     }
 }
 

@@ -47,10 +47,6 @@ impl<'a> Asked<'a> {
         Ok(())
     }
 
-    pub fn first_between(&self, low: i64, high: i64) -> Result<Option<u64>, Refusal> {
-        self.0.first_between(low, high)
-    }
-
     pub fn candidates_from(&self, id: u32) -> Candidates<'a> {
         self.0.candidates_from(id)
     }

@@ -3,14 +3,12 @@
 use std::io::{self, Write};
 use std::path::Path;
 
-use signalfern::Refusal;
-
 use crate::arguments::Arguments;
 use crate::failure::{Failure, REFUSED, TROUBLE};
 use crate::json::Object;
 use crate::load::Loaded;
 use crate::output::print_with;
-use crate::scan::{Pairs, Scan};
+use crate::scan::{Pairs, Scan, Stop};
 
 /// The status where some pairs differ.
 const DIFFERENT: u8 = REFUSED;
@@ -46,7 +44,7 @@ pub fn run(mut arguments: Arguments) -> Result<(), Failure> {
     arguments.one_standard([&a, &b])?;
     let (old, new) = (load(&a)?, load(&b)?);
     let (old, new) = (Scan::of(&old)?, Scan::of(&new)?);
-    let counts = Counts::of(&old, &new).map_err(|refusal| as_trouble(old.failure(refusal)))?;
+    let counts = Counts::of(&old, &new).map_err(|stop| as_trouble(old.failure(stop)))?;
     let (quiet, json) = (arguments.has("quiet"), arguments.has("json"));
     let printed = match quiet {
         true => Ok(()),
@@ -78,7 +76,7 @@ fn as_trouble(failure: Failure) -> Failure {
 fn put(out: &mut dyn Write, changes: Changes, limit: u64, json: bool) -> io::Result<()> {
     let mut left = limit;
     for change in changes {
-        let change = change.map_err(|refusal| io::Error::other(refusal.to_string()))?;
+        let change = change.map_err(|_| io::Error::other("the reading stopped"))?;
         let Some(change) = change else {
             continue;
         };
@@ -99,7 +97,7 @@ impl<'a> Changes<'a> {
         }
     }
 
-    fn step(&mut self) -> Result<Option<Option<Change>>, Refusal> {
+    fn step(&mut self) -> Result<Option<Option<Change>>, Stop> {
         let old = self.old.peek().copied().transpose()?;
         let new = self.new.peek().copied().transpose()?;
         let (passes_old, passes_new, change) = match (old, new) {
@@ -126,7 +124,7 @@ impl<'a> Changes<'a> {
 
 impl Iterator for Changes<'_> {
     /// A change, or none for a pair that is the same in both.
-    type Item = Result<Option<Change>, Refusal>;
+    type Item = Result<Option<Change>, Stop>;
 
     fn next(&mut self) -> Option<Self::Item> {
         self.step().transpose()
@@ -134,7 +132,7 @@ impl Iterator for Changes<'_> {
 }
 
 impl Counts {
-    fn of(old: &Scan, new: &Scan) -> Result<Self, Refusal> {
+    fn of(old: &Scan, new: &Scan) -> Result<Self, Stop> {
         let mut counts = Self::default();
         for change in Changes::of(old, new) {
             match change? {

@@ -1,18 +1,17 @@
-//! find: the pairs with a value in a range; the first by the directory of edition 3, where there is one.
+//! find: the pairs with a value in a range; by the directory of edition 3, where there is one.
 
 use std::io::{self, Write};
 use std::os::unix::ffi::OsStrExt;
 
-use signalfern::{Refusal, MAX_ID};
+use signalfern::{Column, Edition, Refusal};
 
 use crate::answers::put_line;
 use crate::arguments::Arguments;
-use crate::column::Asked;
 use crate::failure::Failure;
 use crate::json::Object;
 use crate::load::Loaded;
 use crate::output::{print, print_with};
-use crate::scan::Scan;
+use crate::scan::{Pairs, Scan, Stop};
 use crate::words::parse_value;
 
 /// Bytes gathered before they are handed on.
@@ -49,10 +48,11 @@ pub fn run(mut arguments: Arguments) -> Result<(), Failure> {
     let json = arguments.has("json");
     let range = Range { low, high, json };
     let loaded = Loaded::sound(&path, given)?;
+    let scan = Scan::of(&loaded)?;
     match (count, all) {
-        (true, _) => range.print_count(&loaded),
-        (_, true) => range.print_all(&loaded),
-        _ => range.print_first(&loaded),
+        (true, _) => range.print_count(&scan),
+        (_, true) => range.print_all(&scan),
+        _ => range.print_first(&scan),
     }
 }
 
@@ -64,25 +64,76 @@ fn value(arguments: &mut Arguments) -> Result<i64, Failure> {
     parse_value(word.as_bytes()).map_err(|wrong| arguments.usage(wrong.parts().1))
 }
 
-fn refused(loaded: &Loaded, refusal: Refusal) -> Failure {
-    Failure::refused(&loaded.name, refusal)
+/// The pairs with a value in a range, in order.
+enum Matches<'a> {
+    /// From an ordinal on, by the directory.
+    Directory(Column<'a>, Range, u64),
+    /// By a scan of all pairs.
+    Scanned(Range, std::iter::Zip<std::ops::RangeFrom<u64>, Pairs<'a>>),
 }
 
-/// The pair with an ordinal, by the proved search for the next one: its ordinal grows with the id.
-fn pair_of(asked: &Asked, ordinal: u64) -> Result<Option<Found>, Refusal> {
-    let (mut low, mut high) = (0, MAX_ID + 1);
-    while low < high {
-        let middle = low + (high - low) / 2;
-        match asked.candidates_from(middle).next().transpose()? {
-            Some(it) if it.ordinal == ordinal => {
-                let (id, value) = (it.id, it.value);
-                return Ok(Some(Found { id, value, ordinal }));
-            }
-            Some(it) if it.ordinal < ordinal => low = it.id + 1,
-            _ => high = middle,
+impl<'a> Matches<'a> {
+    fn of(scan: &Scan<'a>, range: Range) -> Self {
+        match scan.column().edition() {
+            Edition::Runs => Self::Directory(scan.column(), range, 0),
+            _ => Self::Scanned(range, (0..).zip(scan.pairs())),
         }
     }
-    Ok(None)
+
+    fn step(&mut self) -> Result<Option<Found>, Stop> {
+        match self {
+            Self::Directory(column, range, from) => {
+                let Some(ordinal) = column.first_between_from(*from, range.low, range.high)? else {
+                    return Ok(None);
+                };
+                *from = ordinal + 1;
+                // On bytes that the check accepted there is such a pair, and its value is in the range.
+                let pair = column.pair_at(ordinal)?;
+                let pair = pair.filter(|pair| range.has(pair.value));
+                let pair = pair.ok_or(Stop::Refused(Refusal::Broken))?;
+                let (id, value) = (pair.id, pair.value);
+                Ok(Some(Found { id, value, ordinal }))
+            }
+            Self::Scanned(range, pairs) => {
+                for (ordinal, pair) in pairs {
+                    let (id, value) = pair?;
+                    if range.has(value) {
+                        return Ok(Some(Found { id, value, ordinal }));
+                    }
+                }
+                Ok(None)
+            }
+        }
+    }
+}
+
+impl Matches<'_> {
+    /// How many there are. By the directory no id is needed.
+    fn counted(self) -> Result<u64, Stop> {
+        let mut count = 0;
+        match self {
+            Self::Directory(column, Range { low, high, .. }, mut from) => {
+                while let Some(ordinal) = column.first_between_from(from, low, high)? {
+                    (count, from) = (count + 1, ordinal + 1);
+                }
+            }
+            Self::Scanned(..) => {
+                for found in self {
+                    found?;
+                    count += 1;
+                }
+            }
+        }
+        Ok(count)
+    }
+}
+
+impl Iterator for Matches<'_> {
+    type Item = Result<Found, Stop>;
+
+    fn next(&mut self) -> Option<Self::Item> {
+        self.step().transpose()
+    }
 }
 
 impl Range {
@@ -90,73 +141,33 @@ impl Range {
         (self.low..=self.high).contains(&value)
     }
 
-    fn print_count(&self, loaded: &Loaded) -> Result<(), Failure> {
-        let scan = Scan::of(loaded)?;
-        let mut matches = 0_u64;
-        for pair in scan.pairs() {
-            let (_, value) = pair.map_err(|refusal| scan.failure(refusal))?;
-            matches += u64::from(self.has(value));
-        }
-        print(&self.counted(matches))
+    fn print_count(&self, scan: &Scan) -> Result<(), Failure> {
+        let count = Matches::of(scan, *self).counted();
+        print(&self.counted(count.map_err(|stop| scan.failure(stop))?))
     }
 
-    /// The first, by the directory where there is one.
-    fn print_first(&self, loaded: &Loaded) -> Result<(), Failure> {
-        let asked = Asked::of(loaded)?;
-        let first = match asked.first_between(self.low, self.high) {
-            Ok(first) => first.map(|ordinal| pair_of(&asked, ordinal)),
-            // There is no directory.
-            Err(Refusal::Edition) => return self.print_scanned(loaded),
-            Err(refusal) => return Err(refused(loaded, refusal)),
-        };
-        let found = match first
-            .transpose()
-            .map_err(|refusal| refused(loaded, refusal))?
-        {
-            None => None,
-            Some(Some(pair)) if self.has(pair.value) => Some(pair),
-            // On bytes that the check accepted, nothing else can be answered.
-            Some(_) => {
-                let message = "the search and the look-up do not agree";
-                return Err(Failure::Trouble(format!("{}: {message}", loaded.name)));
-            }
-        };
-        print(&self.line(found))
+    fn print_first(&self, scan: &Scan) -> Result<(), Failure> {
+        let first = Matches::of(scan, *self).next().transpose();
+        print(&self.line(first.map_err(|stop| scan.failure(stop))?))
     }
 
-    /// The first by a plain scan.
-    fn print_scanned(&self, loaded: &Loaded) -> Result<(), Failure> {
-        let scan = Scan::of(loaded)?;
-        for (ordinal, pair) in (0..).zip(scan.pairs()) {
-            let (id, value) = pair.map_err(|refusal| scan.failure(refusal))?;
-            if self.has(value) {
-                return print(&self.line(Some(Found { id, value, ordinal })));
-            }
-        }
-        print(&self.line(None))
-    }
-
-    fn print_all(&self, loaded: &Loaded) -> Result<(), Failure> {
-        let scan = Scan::of(loaded)?;
-        let mut refused = None;
+    fn print_all(&self, scan: &Scan) -> Result<(), Failure> {
+        let mut stopped = None;
         print_with(|out| {
-            refused = self.put_all(out, &scan)?;
+            stopped = self.put_all(out, Matches::of(scan, *self))?;
             Ok(())
         })?;
-        refused.map_or(Ok(()), |refusal| Err(scan.failure(refusal)))
+        stopped.map_or(Ok(()), |stop| Err(scan.failure(stop)))
     }
 
-    /// Gives the refusal, if there was one.
-    fn put_all(&self, out: &mut dyn Write, scan: &Scan) -> io::Result<Option<Refusal>> {
+    /// Gives what stopped the reading, if something did.
+    fn put_all(&self, out: &mut dyn Write, matches: Matches) -> io::Result<Option<Stop>> {
         let (mut any, mut buffer) = (false, Vec::new());
-        for (ordinal, pair) in (0..).zip(scan.pairs()) {
-            let (id, value) = match pair {
-                Ok(pair) => pair,
-                Err(refusal) => return Ok(Some(refusal)),
+        for found in matches {
+            let Found { id, value, ordinal } = match found {
+                Ok(found) => found,
+                Err(stop) => return Ok(Some(stop)),
             };
-            if !self.has(value) {
-                continue;
-            }
             any = true;
             match self.json {
                 false => put_line(&mut buffer, id, Some((value, ordinal))),

@@ -2,12 +2,10 @@
 
 use std::io;
 
-use signalfern::{Answer, MAX_ID};
+use signalfern::MAX_ID;
 
-use crate::blocks::{places, Section};
-use crate::column::Asked;
-use crate::header::Header;
 use crate::printing::Printer;
+use crate::scan::{Scan, Stop};
 
 /// Which pairs are wanted.
 #[derive(Clone, Copy, Debug, PartialEq, Eq)]
@@ -25,43 +23,15 @@ impl Wanted {
     };
 }
 
-/// Prints the wanted pairs of a column that was checked: the ids by its blocks, each value by the
-/// library's look-up.
-pub fn print(bytes: &[u8], wanted: Wanted, printer: &mut Printer) -> io::Result<()> {
-    let (Ok(header), Ok(asked)) = (Header::parse(bytes), Asked::open(bytes)) else {
-        return Err(other("the header cannot be read again"));
-    };
-    let section = Section::of(&header, bytes);
-    let mut left = wanted.limit;
-    for block in section.walk() {
-        let first = (block.number as u32) << 16;
-        if first | 0xFFFF < wanted.from {
-            continue;
-        }
-        let data = section.data(&block).unwrap_or_default();
-        for (ordinal, place) in (block.before..).zip(places(&block, data)) {
-            let id = first | place;
-            if left == 0 || id > wanted.to {
-                return Ok(());
-            }
-            if id < wanted.from {
-                continue;
-            }
-            printer.pair(id, value_of(&asked, id, ordinal)?)?;
-            left -= 1;
+/// Prints the wanted pairs. The outer result is that of the output, the inner that of the reading.
+pub fn print(scan: &Scan, wanted: Wanted, printer: &mut Printer) -> io::Result<Result<(), Stop>> {
+    let limit = usize::try_from(wanted.limit).unwrap_or(usize::MAX);
+    for pair in scan.pairs_from(wanted.from).take(limit) {
+        match pair {
+            Err(stop) => return Ok(Err(stop)),
+            Ok((id, _)) if id > wanted.to => break,
+            Ok((id, value)) => printer.pair(id, value)?,
         }
     }
-    Ok(())
-}
-
-/// The value of a listed id. On bytes that the check accepted, nothing else can be answered.
-fn value_of(asked: &Asked, id: u32, expected: u64) -> io::Result<i64> {
-    match asked.look_up(id) {
-        Ok(Answer::Found { ordinal, value, .. }) if ordinal == expected => Ok(value),
-        _ => Err(other("the look-up and the blocks do not agree")),
-    }
-}
-
-fn other(message: &str) -> io::Error {
-    io::Error::other(message)
+    Ok(Ok(()))
 }

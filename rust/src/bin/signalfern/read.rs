@@ -11,7 +11,7 @@ use crate::printing::Printer;
 use crate::progress::{Progress, Unit};
 use crate::range::{self, Wanted};
 use crate::replaced::Replaces;
-use crate::scan::read_whole;
+use crate::scan::Scan;
 use crate::text::quoted;
 use crate::words::parse_id;
 
@@ -32,20 +32,25 @@ pub fn run(mut arguments: Arguments) -> Result<(), Failure> {
     let total = (wanted == Wanted::ALL).then_some(count);
     let progress = Progress::new("printing".to_string(), Unit::Pairs, total);
     let progress = progress.beside(output.is_standard());
-    let whole = total.and_then(|count| read_whole(&loaded.bytes, count));
-    if whole.is_some() {
-        // From here on the pairs alone are needed.
-        loaded.bytes = Vec::new();
-    }
-    output.fill(|out| {
+    let scan = Scan::of(&loaded)?;
+    let mut stopped = None;
+    let filled = output.fill(|out| {
         out.write_all(layout.start().as_bytes())?;
         let mut printer = Printer::new(out, progress).around(layout.around());
-        match &whole {
-            Some((ids, values)) => print_all(ids, values, &mut printer)?,
-            None => range::print(&loaded.bytes, wanted, &mut printer)?,
+        match range::print(&scan, wanted, &mut printer)? {
+            Ok(()) => printer.finish(),
+            Err(stop) => {
+                printer.finish()?;
+                stopped = Some(stop);
+                // No file takes its name.
+                Err(io::Error::other("the reading stopped"))
+            }
         }
-        printer.finish()
-    })
+    });
+    match stopped {
+        Some(stop) => Err(scan.failure(stop)),
+        None => filled,
+    }
 }
 
 fn wanted(arguments: &Arguments) -> Result<Wanted, Failure> {
@@ -70,11 +75,4 @@ fn wanted(arguments: &Arguments) -> Result<Wanted, Failure> {
         to,
         limit: limit.unwrap_or(Wanted::ALL.limit),
     })
-}
-
-fn print_all(ids: &[u32], values: &[i64], printer: &mut Printer) -> io::Result<()> {
-    for (id, value) in ids.iter().zip(values) {
-        printer.pair(*id, *value)?;
-    }
-    Ok(())
 }

@@ -2,14 +2,12 @@
 
 use std::fmt::Write;
 
-use signalfern::Refusal;
-
 use crate::arguments::Arguments;
 use crate::failure::Failure;
 use crate::json::Object;
 use crate::load::Loaded;
 use crate::output::print;
-use crate::scan::Scan;
+use crate::scan::{Scan, Stop};
 use crate::text::counted;
 
 /// The quantiles that are told, in parts of 1000.
@@ -33,7 +31,7 @@ pub fn run(mut arguments: Arguments) -> Result<(), Failure> {
     arguments.finish()?;
     let loaded = Loaded::sound(&path, given)?;
     let scan = Scan::of(&loaded)?;
-    let stats = Stats::of(&scan, bins).map_err(|refusal| scan.failure(refusal))?;
+    let stats = Stats::of(&scan, bins).map_err(|stop| scan.failure(stop))?;
     match arguments.has("json") {
         true => print(&stats.json(&loaded).line()),
         false => print(&stats.text(&loaded.name)),
@@ -63,7 +61,7 @@ pub struct Bin {
 impl Stats {
     /// Goes through the column some times, in little memory: once for the ends and the sum, once for the ranges, and
     /// once for every 16 bits that its values span, for the quantiles.
-    pub fn of(scan: &Scan, bins: usize) -> Result<Self, Refusal> {
+    pub fn of(scan: &Scan, bins: usize) -> Result<Self, Stop> {
         let mut stats = Self {
             smallest: i64::MAX,
             greatest: i64::MIN,
@@ -90,7 +88,7 @@ impl Stats {
     }
 
     /// As many ranges of equal width as were told, or fewer where there are fewer values between the ends.
-    fn fill_bins(&mut self, scan: &Scan, bins: usize) -> Result<(), Refusal> {
+    fn fill_bins(&mut self, scan: &Scan, bins: usize) -> Result<(), Stop> {
         let span = u128::from(self.above(self.greatest)) + 1;
         let width = span.div_ceil(bins as u128);
         let bins = span.div_ceil(width) as usize;
@@ -114,7 +112,7 @@ impl Stats {
 
     /// Each pass counts, for every quantile that is not settled yet, the next digit of the values that share the
     /// digits before it.
-    fn fill_quantiles(&mut self, scan: &Scan) -> Result<(), Refusal> {
+    fn fill_quantiles(&mut self, scan: &Scan) -> Result<(), Stop> {
         let bits = 64 - self.above(self.greatest).leading_zeros();
         let mut shift = bits.next_multiple_of(DIGIT);
         // Of each quantile: the digits above `shift`, and its rank among the values that have them.

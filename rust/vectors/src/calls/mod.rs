@@ -10,6 +10,7 @@ mod reading;
 mod searching;
 mod sets;
 mod stepping;
+mod walking;
 mod writing;
 
 use std::collections::HashSet;
@@ -54,7 +55,7 @@ pub fn id(id: u32) -> Json {
 /// Makes the vectors of a call.
 type Make = fn(&mut Vectors);
 
-const CALLS: [(&str, Make); 20] = [
+const CALLS: [(&str, Make); 26] = [
     ("write", writing::write),
     ("write_planned", planning::write_planned),
     ("plan", planning::plan),
@@ -75,6 +76,12 @@ const CALLS: [(&str, Make); 20] = [
     ("next_in", opened::next_in),
     ("first_between_in", opened::first_between_in),
     ("look_up_layered_in", opened::look_up_layered_in),
+    ("read_from", walking::read_from),
+    ("pair_at", walking::pair_at),
+    ("first_between_from", walking::first_between_from),
+    ("read_from_in", walking::read_from_in),
+    ("pair_at_in", walking::pair_at_in),
+    ("first_between_from_in", walking::first_between_from_in),
 ];
 
 /// Every file of vectors, its name and its text.

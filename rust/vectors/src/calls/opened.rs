@@ -19,7 +19,7 @@ pub fn open(vectors: &mut Vectors) {
     }
 }
 
-fn given(header: &Header) -> Json {
+pub fn given(header: &Header) -> Json {
     object(numbers_of(header))
 }
 
@@ -60,7 +60,7 @@ const CHANGES: [(&str, fn(&mut Header)); 19] = [
     ("more value bytes", |it| it.value_bytes += 1),
 ];
 
-const BROKEN: &str = "a step fails";
+pub const BROKEN: &str = "a step fails";
 
 /// A column of edition 3 whose run has a width of 65, and one of edition 1 with more ids than n.
 fn broken() -> [Vec<u8>; 2] {
@@ -71,7 +71,7 @@ fn broken() -> [Vec<u8>; 2] {
     ]
 }
 
-fn of_small() -> Vec<(String, Header, Vec<u8>)> {
+pub fn of_small() -> Vec<(String, Header, Vec<u8>)> {
     let small = samples::small();
     let mut made = Vec::new();
     for sample in [0, 4, 5, 6, 19, 32, 34].map(|index| &small[index]) {

@@ -75,7 +75,7 @@ fn scanned_and_not_halved(add: &mut impl FnMut(&str, &[u8], u32, u32)) {
 }
 
 /// Ranges around the values of a column.
-fn ranges(sample: &Sample, random: &mut Random) -> Vec<(i64, i64)> {
+pub fn ranges(sample: &Sample, random: &mut Random) -> Vec<(i64, i64)> {
     let values = sample.values.values();
     let mut ranges = vec![(i64::MIN, i64::MAX), (1, 0), (i64::MAX, i64::MIN)];
     let (Some(&least), Some(&most)) = (values.iter().min(), values.iter().max()) else {

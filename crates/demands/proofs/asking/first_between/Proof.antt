@@ -6,7 +6,7 @@ use Rattle.format.specs.Editions.{runs}
 use Rattle.format.specs.FirstBetween.{firstBetween}
 use Rattle.laws.proofs.Digits.{below-all}
 use Rattle.signed.proofs.Signs.{read-back}
-use Rattle.laws.proofs.PassedOn.{between-number, between-short}
+use Rattle.laws.proofs.PassedOn.{number-in-3, short-in-3}
 use Rattle.demands.specs.Tables.{BetweenSays}
 use Rattle.demands.proofs.Replies.{at-once, header-told}
 use Rattle.demands.proofs.Tables.{between-says}
@@ -26,7 +26,7 @@ returns c =
       subst (BetweenSays b (a .low) (a .high)) (sym e) (between-says b (a .low) (a .high)),
       (
         header-told {A = Outcome (Option ℕ)} (runs ∷ []) b _ (λ why w. refused why w) _ _ e
-            (λ w. at-once (between-number b u (a .low) (a .high) w)) (λ w. at-once (between-short b u (a .low) (a .high) w)),
+            (λ w. at-once (number-in-3 b u w .ranging (a .low) (a .high))) (λ w. at-once (short-in-3 b u w .ranging (a .low) (a .high))),
         (λ n x h. e ∙ between-scans b n x (a .low) (a .high) h, λ n x h. e ∙ between-others b n x (a .low) (a .high) h),
       ),
     )

@@ -152,7 +152,7 @@ fn column(out: &mut String, subject: &Subject) -> Result<(), Failure> {
     out.push_str("</section>\n");
     tables::block_table(out, &rows);
     let scan = Scan::of(subject.loaded)?;
-    let stats = Stats::of(&scan, BINS).map_err(|refusal| scan.failure(refusal))?;
+    let stats = Stats::of(&scan, BINS).map_err(|stop| scan.failure(stop))?;
     out.push_str("<section>\n<h2>Distribution of the scores</h2>\n");
     match stats.count {
         0 => out.push_str("<p>There is no score.</p>\n"),

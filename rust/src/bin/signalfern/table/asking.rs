@@ -78,9 +78,9 @@ pub const FIND: Command = Command {
          line: the id, then its value and its ordinal (how many ids lie below it). Where there is no such \
          pair, a line `none from LOW to HIGH` says so; that is an answer, and the status is 0. A LOW above \
          HIGH is a wrong command line.",
-        "In a column of edition 3 the first is found by the directory: it tells the smallest and the greatest \
-         value of each run of 16384, and runs that cannot hold such a value are not read. In the others, and \
-         for --all and --count, all pairs are read. The column is checked first.",
+        "In a column of edition 3 they are found by the directory: it tells the smallest and the greatest \
+         value of each run of 16384, and runs that cannot hold such a value are not read. In the others all \
+         pairs are read. The column is checked first.",
     ],
     options: &[
         flag(Some('a'), "all", "every such pair, in the order of the ids"),

@@ -141,8 +141,9 @@ pub const READ: Command = Command {
     summary: "print its pairs as lines `ID VALUE`",
     text: &[
         "Prints the pairs of a column as lines `ID VALUE`, as a table, or as JSON lines. The whole column \
-         is checked before the first line. With --from, --to or --limit, and where the memory for all \
-         pairs cannot be had, pairs are printed as they are met, in little memory.",
+         is checked before the first line. Pairs are printed as they are read, some at a time, in little \
+         memory whatever the column holds. Where all are printed and they are not as many as the header \
+         tells of, that is said, and the status is 1.",
     ],
     options: &[
         option(

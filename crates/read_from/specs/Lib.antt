@@ -1,0 +1,2 @@
+-- What the code's reading stands for.
+pub mod Blocks

@@ -1,0 +1,10 @@
+-- Laws of the pairs of one block.
+pub mod Parts
+pub mod Places
+pub mod Entries
+pub mod Strides
+pub mod Longs
+pub mod Rows
+pub mod BitRows
+pub mod OneLong
+pub mod Left

@@ -1,0 +1,4 @@
+-- The pairs of one block.
+pub mod Parts
+pub mod Stretch
+pub mod Rows

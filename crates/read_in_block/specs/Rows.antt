@@ -1,0 +1,44 @@
+-- Ids in a row. Assumes nothing.
+use Rattle.format.specs.Kit.{ℕ, zero, suc, _+_, _-_, _*_, _/_, _^_, _≤_, _<_, _≡_, List, [], _∷_, trailingZeros}
+use Rattle.format.specs.Limits.{blockPlaces}
+use Rattle.next_in_block.specs.First.{entryIn}
+
+-- k ids from id on
+unfoldable pub upFrom : ℕ → ℕ → List ℕ
+upFrom id zero = []
+upFrom id (suc k) = id ∷ upFrom (suc id) k
+
+-- ---- entries of a sparse block at t
+
+-- the ids of n entries from j on
+unfoldable pub entriesFrom : List ℕ → ℕ → ℕ → ℕ → ℕ → List ℕ
+entriesFrom s t b j zero = []
+entriesFrom s t b j (suc n) = (b * blockPlaces + entryIn s t j) ∷ entriesFrom s t b (suc j) n
+
+-- n entries from j on are places of a block, the first is r or above, and each is above the one before
+abbrev pub Rising : List ℕ → ℕ → ℕ → ℕ → ℕ → Type 0
+Rising s t r j zero = r ≡ r
+Rising s t r j (suc n) = (r ≤ entryIn s t j) × (entryIn s t j < blockPlaces) × Rising s t (suc (entryIn s t j)) (suc j) n
+
+-- the entries from j on rise up to entry k, which is the last one asked for or does not; where k is j, entry j is below r
+pub record RisesTo (s : List ℕ) (t r j end k : ℕ) : Type 0 where
+  pub from : j ≤ k
+  pub most : k ≤ end
+  pub rises : Rising s t r j (k - j)
+  pub none : k ≡ j → j < end → entryIn s t j < r
+
+-- ---- bits of a long of a dense block
+
+-- the ids of the first n bits of `rest`, which has those from place r of block b on
+unfoldable pub bitsFrom : ℕ → ℕ → ℕ → ℕ → List ℕ
+bitsFrom b r rest zero = []
+bitsFrom b r rest (suc n) =
+    let z : ℕ = trailingZeros 64 rest in
+    (b * blockPlaces + (r + z)) ∷ bitsFrom b (suc (r + z)) (rest / 2 ^ (z + 1)) n
+
+-- these bits are there, and are places of a block
+abbrev pub BitsIn : ℕ → ℕ → ℕ → Type 0
+BitsIn r rest zero = r ≡ r
+BitsIn r rest (suc n) =
+    let z : ℕ = trailingZeros 64 rest in
+    (z < 64) × (r + z < blockPlaces) × BitsIn (suc (r + z)) (rest / 2 ^ (z + 1)) n

@@ -1,0 +1,3 @@
+-- The order of values in their biased forms, and what is left of a search.
+pub mod Ordered
+pub mod Left
