@@ -1,6 +1,6 @@
 """Makes a wheel of this package by the standard library and the machine's C compiler, so that `pip install ./python` fetches nothing.
 
-A wheel is a zip file of the package, the shared library among it, and of three small files about it.
+A wheel is a zip file of the package, what was built for it among it, and of three small files about it.
 """
 
 import base64
@@ -62,17 +62,28 @@ def _about(wheel, tag):
     wheel.add(f"{NAME}.dist-info/LICENSE", (ROOT / "LICENSE").read_bytes())
 
 
+def _built(folder):
+    """The library, and the module for pages where this Python's header is there."""
+    library, module = pathlib.Path(folder) / "libsignalfern.so", pathlib.Path(folder) / f"_page{_build.MODULE_SUFFIX}"
+    _build.build_library(ROOT, library)
+    yield library
+    try:
+        _build.build_module(ROOT, module)
+        yield module
+    except _build.BuildError as wrong:
+        print(f"signalfern: without its module for pages of numpy's arrays: {wrong}")
+
+
 def build_wheel(wheel_directory, config_settings=None, metadata_directory=None):
+    # (for any Python 3: the module's name says for which it is, and every other one asks by ctypes)
     tag = f"py3-none-{_platform()}"
-    with tempfile.TemporaryDirectory() as folder:
-        library = pathlib.Path(folder) / "libsignalfern.so"
-        _build.build(ROOT, library)
-        built = library.read_bytes()
     name = f"{NAME}-{tag}.whl"
     wheel = _Wheel(pathlib.Path(wheel_directory) / name)
     for path in _package():
         wheel.add(f"signalfern/{path.name}", path.read_bytes())
-    wheel.add("signalfern/libsignalfern.so", built, 0o755)
+    with tempfile.TemporaryDirectory() as folder:
+        for path in _built(folder):
+            wheel.add(f"signalfern/{path.name}", path.read_bytes(), 0o755)
     _about(wheel, tag)
     wheel.close()
     return name

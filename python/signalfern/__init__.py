@@ -10,7 +10,8 @@ from . import errors
 from ._exact import MAX_ID
 from ._held import digest
 from ._library import VERSION as __version__
-from .column import Column, Found, Page, Pair
+from ._pages import Page
+from .column import Column, Found, Pair
 from .errors import Error, Faulty, Refused
 from .layered import Layer, Layered, LayeredFound, LayeredPage, LayeredPair
 from .sections import judge_section

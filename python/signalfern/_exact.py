@@ -75,6 +75,11 @@ def exact_value(number: Any) -> int:
     return exact(number, "a value", VALUES.least, VALUES.greatest)
 
 
+def exact_ordinal(number: Any) -> int:
+    """An ordinal: 64 bits without a sign."""
+    return exact(number, "an ordinal", ORDINALS.least, ORDINALS.greatest)
+
+
 def new(kind: Kind, count: int) -> Any:
     """A new array of so many places: numpy's where it is installed."""
     if numpy is not None:
@@ -174,6 +179,19 @@ def filled(kind: Kind, numbers: List[int]) -> Any:
 def first_places(numbers: Any, count: int) -> Any:
     """The first places of an array that was made here; the array itself where these are all."""
     return numbers if len(numbers) == count else numbers[:count]
+
+
+def joined(chunks: List[Tuple[Any, Any]]) -> Tuple[Any, Any]:
+    """Pairs of an array of ids and one of values, one after the other, as one such pair."""
+    if len(chunks) == 1:
+        return chunks[0]
+    ids, values = new(IDS, 0), new(VALUES, 0)
+    if numpy is not None:
+        return (numpy.concatenate([ids, *(chunk[0] for chunk in chunks)]), numpy.concatenate([values, *(chunk[1] for chunk in chunks)]))
+    for more_ids, more_values in chunks:
+        ids.extend(more_ids)
+        values.extend(more_values)
+    return ids, values
 
 
 def first_refusal(kinds: Any) -> Optional[int]:

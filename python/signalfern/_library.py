@@ -5,7 +5,6 @@ ctypes releases the interpreter's lock during each, so that threads may call at 
 """
 
 import ctypes
-import hashlib
 import os
 import pathlib
 from ctypes import POINTER, Structure, c_char_p, c_int64, c_size_t, c_uint32, c_uint64, c_void_p
@@ -29,6 +28,8 @@ Answer = _struct("Answer", "kind number ordinal value* words probes")
 PageReply = _struct("PageReply", "refusal number words")
 Opened = _struct("Opened", "refusal number edition count power id_bytes jump_count width smallest divisor value_bytes start")
 Candidate = _struct("Candidate", "kind number id ordinal value* last")
+Readout = _struct("Readout", "kind number count")
+PairAt = _struct("PairAt", "kind number id ordinal value*")
 Between = _struct("Between", "kind number ordinal")
 LayeredAnswer = _struct("LayeredAnswer", "kind number column ordinal value* machine_words correction_words")
 Part = _struct("Part", "column start len")
@@ -36,6 +37,7 @@ Member = _struct("Member", "kind number ordinal")
 Judgement = _struct("Judgement", "kind number place reason")
 
 FOUND, ABSENT = 0, 1
+ENDED = 1
 ROOM = 6
 MAX_TABLE = 256
 
@@ -51,11 +53,7 @@ def _path() -> pathlib.Path:
     root = _FOLDER.parent.parent
     if not (root / "dist").is_dir():
         raise ImportError(f"signalfern has no library: {installed} is not there, and SIGNALFERN_LIBRARY is not set")
-    made_from = hashlib.sha256(b"".join(source.read_bytes() for source in _build.sources(root))).hexdigest()[:16]
-    built = root / "target" / "python" / f"libsignalfern-{made_from}.so"
-    if not built.exists():
-        _build.build(root, built)
-    return built
+    return _build.built(root, "libsignalfern", ".so", _build.library_sources(root), _build.build_library)
 
 
 def _loaded() -> ctypes.CDLL:
@@ -91,8 +89,11 @@ read = _call("read", _SLICE * 3, Reply)
 open_column = _call("open", _SLICE, Opened)
 look_up_in = _call("look_up_in", _COLUMN + _SLICE + [c_uint32], Answer)
 look_up_page = _call("look_up_page", _SLICE * 5, PageReply)
+look_up_page_address = ctypes.cast(_LIBRARY.signalfern_look_up_page_to, c_void_p).value
 next_in = _call("next_in", _COLUMN + [c_uint64] + _SLICE + [c_uint32], Candidate)
-first_between_in = _call("first_between_in", _COLUMN + _SLICE + [c_int64, c_int64], Between)
+read_from_in = _call("read_from_in", _COLUMN + _SLICE + [c_uint32] + _SLICE * 2, Readout)
+pair_at_in = _call("pair_at_in", _COLUMN + _SLICE + [c_uint64], PairAt)
+first_between_from_in = _call("first_between_from_in", _COLUMN + _SLICE + [c_uint64, c_int64, c_int64], Between)
 look_up_layered_in = _call("look_up_layered_in", _COLUMN + _SLICE + _COLUMN + _SLICE + [c_uint32], LayeredAnswer)
 layered_values = _call("layered_values", _SLICE * 2 + [c_uint32], Part)
 set_write = _call("set_write", _SLICE * 2, Reply)

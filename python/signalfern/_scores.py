@@ -1,11 +1,12 @@
 """What a column, and a column with a correction on top, answer alike."""
 
-from typing import Any, Iterator, Optional, Tuple
+from typing import Any, Iterator, Tuple
 
 from ._exact import MAX_ID, exact_id
 from ._library import FOUND
 
-# How many pairs an iteration takes at a time.
+# Some pairs, as an array of ids and one of values; and how many an iteration takes at a time.
+Chunk = Tuple[Any, Any]
 CHUNK = 4096
 
 
@@ -45,11 +46,15 @@ class Scores:
         """The pairs at or above an id, in turn. A file that is read so cannot be closed before the end, or before the iterator is let go."""
         return self._pairs(exact_id(id), self._hold())
 
-    def _pairs(self, target: int, held: Optional[Any]) -> Iterator[Tuple[int, int]]:
+    def _pairs(self, target: int, held: Any) -> Iterator[Tuple[int, int]]:
+        for ids, values in self._chunks(held, target):
+            yield from zip(ids.tolist(), values.tolist())
+
+    def _chunks(self, held: Any, target: int) -> Iterator[Chunk]:
+        """The pairs at or above an id, some at a time."""
         while target <= MAX_ID:
             ids, values = self.read_from(target, CHUNK)
             if not len(ids):
                 break
-            yield from zip(ids.tolist(), values.tolist())
+            yield ids, values
             target = int(ids[-1]) + 1
-        del held

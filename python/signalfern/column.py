@@ -1,13 +1,15 @@
 """Columns: opened and asked."""
 
-from typing import Any, NamedTuple, Optional, Tuple
+from typing import Any, Iterator, NamedTuple, Optional, Tuple
 
 from . import _library
-from ._exact import FLAGS, IDS, MAX_ID, ORDINALS, VALUES, exact, exact_id, exact_value, filled, first_refusal, new, taken, where_found
+from ._exact import FLAGS, IDS, MAX_ID, ORDINALS, VALUES, exact, exact_id, exact_ordinal, exact_value
+from ._exact import first_places, first_refusal, joined, new, taken, where_found
 from ._held import Held, Path, mapped
-from ._library import ABSENT, FOUND, Answer, Between, Candidate, Opened, PageReply, done, look_up_in, look_up_page, refused
+from ._library import ABSENT, ENDED, FOUND, Answer, Between, Candidate, Opened, PageReply, PairAt, Readout, done, look_up_in, look_up_page, refused
 from ._memory import Lent, first
-from ._scores import Scores
+from ._pages import NEEDS, Page, at_once
+from ._scores import CHUNK, Chunk, Scores
 from .writing import Edition
 
 
@@ -26,14 +28,6 @@ class Pair(NamedTuple):
     id: int
     value: int
     ordinal: int
-
-
-class Page(NamedTuple):
-    """What a page of ids gave, place by place: value and ordinal are 0 where ``found`` is not true."""
-
-    values: Any
-    ordinals: Any
-    found: Any
 
 
 class Column(Held, Scores):
@@ -108,7 +102,10 @@ class Column(Held, Scores):
         >>> page.values.tolist(), page.ordinals.tolist(), [bool(found) for found in page.found]
         ([135, 0, 150], [2, 0, 0], [True, False, True])
         """
-        lent, asked = self._bytes(), taken(ids, IDS)
+        lent = self._lent or self._bytes()
+        return at_once(NEEDS, lent.address, lent.bytes, ids) or self._page(lent, taken(ids, IDS))
+
+    def _page(self, lent: Lent, asked: Any) -> Page:
         count = len(asked)
         values, ordinals, kinds, reply = new(VALUES, count), new(ORDINALS, count), new(FLAGS, count), PageReply()
         look_up_page(lent.address, lent.bytes, first(asked), count, first(ordinals), count, first(values), count, first(kinds), count, reply)
@@ -130,19 +127,53 @@ class Column(Held, Scores):
             raise refused(c.kind, c.number)
         return c
 
-    def first_between(self, low: int, high: int) -> Optional[int]:
-        """The first ordinal with a value from low to high, both included, in a column of edition 3; or None.
+    def pair_at(self, ordinal: int) -> Optional[Pair]:
+        """The pair with an ordinal, its place in the list from 0, or None.
+
+        >>> from signalfern import write
+        >>> column = Column(write([0, 2, 7], [150, 140, 135]))
+        >>> column.pair_at(1), column.pair_at(3)
+        (Pair(id=2, value=140, ordinal=1), None)
+        """
+        lent, p = self._bytes(), PairAt()
+        _library.pair_at_in(self._opened, lent.address, lent.bytes, exact_ordinal(ordinal), p)
+        if p.kind > ABSENT:
+            raise refused(p.kind, p.number)
+        return Pair(p.id, p.value, p.ordinal) if p.kind == FOUND else None
+
+    def first_between(self, low: int, high: int, start: int = 0) -> Optional[int]:
+        """The first ordinal, from a start on, with a value from low to high, both included, in a column of edition 3; or None.
 
         >>> from signalfern import write
         >>> column = Column(write([0, 2, 7], [-2, 5, 1], Edition.RUNS))
-        >>> column.first_between(0, 5), column.first_between(-1, 0)
-        (1, None)
+        >>> column.first_between(0, 5), column.first_between(0, 5, start=2), column.first_between(-1, 0)
+        (1, 2, None)
         """
-        lent, b = self._bytes(), Between()
-        _library.first_between_in(self._opened, lent.address, lent.bytes, exact_value(low), exact_value(high), b)
+        return self._first_between(self._bytes(), exact_ordinal(start), exact_value(low), exact_value(high))
+
+    def _first_between(self, lent: Lent, start: int, low: int, high: int) -> Optional[int]:
+        b = Between()
+        _library.first_between_from_in(self._opened, lent.address, lent.bytes, start, low, high, b)
         if b.kind > ABSENT:
             raise refused(b.kind, b.number)
         return int(b.ordinal) if b.kind == FOUND else None
+
+    def all_between(self, low: int, high: int) -> Iterator[int]:
+        """Every ordinal with a value from low to high, both included, in turn, in a column of edition 3. A file that is searched so cannot be closed
+        before the end, or before the iterator is let go.
+
+        >>> from signalfern import write
+        >>> column = Column(write([0, 2, 7], [-2, 5, 1], Edition.RUNS))
+        >>> [column.pair_at(ordinal).id for ordinal in column.all_between(0, 5)]
+        [2, 7]
+        """
+        lent, low, high = self._bytes(), exact_value(low), exact_value(high)
+        return self._ordinals(lent, self._first_between(lent, 0, low, high), low, high)
+
+    def _ordinals(self, lent: Lent, found: Optional[int], low: int, high: int) -> Iterator[int]:
+        while found is not None:
+            yield found
+            found = self._first_between(lent, found + 1, low, high)
 
     def read(self) -> Tuple[Any, Any]:
         """All ids and all values, as two arrays.
@@ -168,15 +199,27 @@ class Column(Held, Scores):
         >>> ids.tolist(), values.tolist()
         ([2, 7], [140, 135])
         """
-        lent, target = self._bytes(), exact_id(id)
-        ids, values = [], []
-        for _ in range(exact(count, "a count", 0, 2**63 - 1)):
-            if target > MAX_ID:
+        lent, target, count = self._bytes(), exact_id(id), exact(count, "a count", 0, 2**63 - 1)
+        # (of a column that was not checked the header's count is a claim: nothing is made by it)
+        places = self._left(lent, target) if self._checked else CHUNK
+        return joined([*self._chunks(lent, target, count, places)])
+
+    def _left(self, lent: Lent, target: int) -> int:
+        """How many pairs of a checked column are at or above an id."""
+        c = self._candidate(lent, target)
+        return len(self) - int(c.ordinal) if c.kind == FOUND else 0
+
+    def _chunks(self, lent: Lent, target: int, count: int = MAX_ID + 1, places: int = CHUNK) -> Iterator[Chunk]:
+        """The next pairs at or above an id, at most so many, in arrays of at most so many places. A refusal comes after the pairs before it."""
+        while count and places and target <= MAX_ID:
+            places, readout = min(places, count), Readout()
+            ids, values = new(IDS, places), new(VALUES, places)
+            _library.read_from_in(self._opened, lent.address, lent.bytes, target, first(ids), places, first(values), places, readout)
+            if readout.kind > ENDED:
+                raise refused(readout.kind, readout.number)
+            if readout.count:
+                yield first_places(ids, readout.count), first_places(values, readout.count)
+                target = int(ids[readout.count - 1]) + 1
+            if readout.kind == ENDED:
                 break
-            c = self._candidate(lent, target)
-            if c.kind == ABSENT:
-                break
-            ids.append(c.id)
-            values.append(c.value)
-            target = c.id + 1
-        return filled(IDS, ids), filled(VALUES, values)
+            count -= readout.count

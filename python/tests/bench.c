@@ -45,6 +45,30 @@ double bench_read_again(const uint8_t *bytes, size_t len, uint32_t *ids, int64_t
     return now() - start;
 }
 
+/* Nanoseconds of a reading from an id on, the mean of so many, into lists that were written before. */
+double bench_read_from(const uint8_t *bytes, size_t len, uint32_t id, uint32_t *ids, int64_t *values, size_t count, int times)
+{
+    signalfern_column column;
+    signalfern_readout readout;
+    signalfern_open_to(bytes, len, &column);
+    double start = now();
+    for (int i = 0; i < times; i++)
+        signalfern_read_from_in_to(&column, bytes, len, id, ids, count, values, count, &readout);
+    return readout.kind > SIGNALFERN_ENDED || readout.count != count ? -1 : (now() - start) / times;
+}
+
+/* Nanoseconds of a pair at an ordinal, the mean of so many. */
+double bench_pair_at(const uint8_t *bytes, size_t len, uint64_t ordinal, int times)
+{
+    signalfern_column column;
+    signalfern_pair pair;
+    signalfern_open_to(bytes, len, &column);
+    double start = now();
+    for (int i = 0; i < times; i++)
+        signalfern_pair_at_in_to(&column, bytes, len, ordinal, &pair);
+    return (now() - start) / times;
+}
+
 /* Nanoseconds of a look-up, the mean of so many. */
 double bench_look_up(const uint8_t *bytes, size_t len, uint32_t id, int times)
 {

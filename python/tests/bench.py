@@ -1,9 +1,13 @@
-"""How long the calls take from Python, beside the same calls from C. To be run by hand, with numpy: python3 python/tests/bench.py
+"""How long the calls take from Python, beside the same calls from C. To be run by hand, with numpy: python3 python/tests/bench.py [--installed]
 
-Each number is the least of many rounds, in which C and Python take turns: other work on the machine makes some rounds longer and none shorter.
+Each number is the least of many rounds, in which C and Python take turns: other work on the machine makes some rounds longer and none shorter. The package
+is this tree's, or the one that is installed. The last lines hold the worst of each kind against what was promised, by the way that the package takes by
+itself; the others tell what it takes by ctypes alone too.
 """
 
+import collections
 import ctypes
+import itertools
 import pathlib
 import subprocess
 import sys
@@ -13,11 +17,16 @@ import time
 import numpy
 
 HERE = pathlib.Path(__file__).resolve().parent
-sys.path.insert(0, str(HERE.parent))
+if "--installed" not in sys.argv:
+    sys.path.insert(0, str(HERE.parent))
 import signalfern  # noqa: E402
-from signalfern import _library  # noqa: E402
+from signalfern import _exact, _library, _pages  # noqa: E402
 
 PAGE, MILLION = 1000, 1_000_000
+# What was promised, and the worst that was measured of each.
+PROMISED = {"a page of 1000 ids by numpy's arrays, times C": 1.5, "reading a million pairs, times C": 1.2, "get, microseconds": 2.0}
+WORST = dict.fromkeys(PROMISED, 0.0)
+A_PAGE, READING, GET = PROMISED
 
 
 def c_calls(folder):
@@ -27,7 +36,7 @@ def c_calls(folder):
     words = ["cc", "-shared", "-fPIC", "-O2", f"-I{include}", str(HERE / "bench.c"), str(library), f"-Wl,-rpath,{library.parent}", "-o", str(made)]
     subprocess.run(words, check=True)
     calls = ctypes.CDLL(str(made))
-    for name in ("page", "read", "read_again", "look_up"):
+    for name in ("page", "read", "read_again", "read_from", "pair_at", "look_up"):
         getattr(calls, f"bench_{name}").restype = ctypes.c_double
     return calls
 
@@ -53,7 +62,7 @@ def least(rounds, *timed):
 
 
 def show(what, c, python, unit=1e3, name="us"):
-    print(f"{what:44} C {c / unit:9.3f} {name}   Python {python / unit:9.3f} {name}   ratio {python / c:5.2f}", flush=True)
+    print(f"{what:52} C {c / unit:9.3f} {name}   Python {python / unit:9.3f} {name}   ratio {python / c:5.2f}", flush=True)
 
 
 def columns(random):
@@ -66,30 +75,61 @@ def columns(random):
     yield "full", *column(numpy.arange(MILLION))
 
 
-def measure(calls, random):
-    for name, ids, bytes_ in columns(random):
-        column = signalfern.Column(bytes_)
-        hits = random.choice(ids, PAGE)
-        misses = numpy.setdiff1d(random.integers(0, int(ids[-1]), 4 * PAGE), ids).astype(numpy.uint32)[:PAGE]
-        for kind, asked in (("hits", hits), ("misses", misses)):
-            if len(asked) == PAGE:
-                lists = numpy.empty(PAGE, numpy.uint64), numpy.empty(PAGE, numpy.int64), numpy.empty(PAGE, numpy.uint8)
-                given = (*words(bytes_), pointer(asked), ctypes.c_size_t(PAGE), *map(pointer, lists), 5)
-                c, python = least(2000, lambda: calls.bench_page(*given), lambda: of_python(lambda: column.look_up_many(asked), 5))
-                show(f"{name}: a page of {PAGE} ids, random {kind}", c, python)
-        id = int(hits[0])
-        c, python = least(1000, lambda: calls.bench_look_up(*words(bytes_), id, 50), lambda: of_python(lambda: column.get(id), 50))
-        show(f"{name}: get", c, python)
-        (each,) = least(200, lambda: of_python(lambda: column.read_from(0, PAGE), 1) / PAGE)
-        print(f"{name}: read_from, each pair: {each / 1e3:.3f} us", flush=True)
-        count = ctypes.c_size_t(len(ids))
-        c, python = least(100, lambda: calls.bench_read(*words(bytes_), count), lambda: of_python(column.read, 1))
-        show(f"{name}: read {len(ids)} pairs into new lists", c, python, 1e6, "ms")
-        kept = numpy.zeros(len(ids), numpy.uint32), numpy.zeros(len(ids), numpy.int64)
-        (again,) = least(50, lambda: calls.bench_read_again(*words(bytes_), *map(pointer, kept), count))
-        show(f"{name}: the same, C into lists written before", again, python, 1e6, "ms")
+def pages(random, ids):
+    """Ids to ask for: listed ones, others of the same blocks where there are some, and others past all blocks; in any order, and ascending."""
+    last = int(ids[-1])
+    kinds = {"hits": random.choice(ids, PAGE), "misses past all blocks": random.integers(last + 65536, signalfern.MAX_ID, PAGE).astype(numpy.uint32)}
+    between = numpy.setdiff1d(random.integers(0, last, 4 * PAGE), ids).astype(numpy.uint32)
+    if len(between) >= PAGE:
+        kinds["misses"] = random.permutation(between)[:PAGE]
+    for kind, asked in kinds.items():
+        yield kind, asked
+        yield f"{kind}, ascending", numpy.sort(asked)
+
+
+def measure_pages(calls, random, name, ids, bytes_):
+    column = signalfern.Column(bytes_)
+    for kind, asked in pages(random, ids):
+        lists = numpy.empty(PAGE, numpy.uint64), numpy.empty(PAGE, numpy.int64), numpy.empty(PAGE, numpy.uint8)
+        given, wide = (*words(bytes_), pointer(asked), ctypes.c_size_t(PAGE), *map(pointer, lists), 5), asked.astype(numpy.int64)
+        ways = [lambda: column.look_up_many(asked), lambda: column.look_up_many(wide), lambda: column._page(column._bytes(), _exact.taken(asked, _exact.IDS))]
+        c, *python = least(1500, lambda: calls.bench_page(*given), *(lambda way=way: of_python(way, 5) for way in ways))
+        each = "   ".join(f"{how} {took / 1e3:6.3f} us, {took / c:4.2f}" for how, took in zip(("Python", "of int64", "by ctypes"), python))
+        print(f"{name + f': a page of {PAGE} {kind}':52} C {c / 1e3:9.3f} us   {each}", flush=True)
+        WORST[A_PAGE] = max(WORST[A_PAGE], *(took / c for took in python[:2]))
+
+
+def measure_others(calls, random, name, ids, bytes_):
+    column, count = signalfern.Column(bytes_), ctypes.c_size_t(len(ids))
+    id = int(random.choice(ids))
+    c, python = least(1000, lambda: calls.bench_look_up(*words(bytes_), id, 50), lambda: of_python(lambda: column.get(id), 50))
+    show(f"{name}: get", c, python)
+    WORST[GET] = max(WORST[GET], python / 1e3)
+    at = ctypes.c_uint64(len(ids) // 3)
+    c, python = least(1000, lambda: calls.bench_pair_at(*words(bytes_), at, 50), lambda: of_python(lambda: column.pair_at(at.value), 50))
+    show(f"{name}: pair_at", c, python)
+    kept = numpy.zeros(len(ids), numpy.uint32), numpy.zeros(len(ids), numpy.int64)
+    for some, rounds, unit, unit_name in ((PAGE, 1000, 1e3, "us"), (len(ids), 50, 1e6, "ms")):
+        given = (*words(bytes_), 0, *map(pointer, kept), ctypes.c_size_t(some), 1)
+        c, python = least(rounds, lambda: calls.bench_read_from(*given), lambda: of_python(lambda: column.read_from(0, some), 1))
+        show(f"{name}: read_from of {some} pairs", c, python, unit, unit_name)
+    (each,) = least(300, lambda: of_python(lambda: collections.deque(itertools.islice(column, 20000), 0), 1) / 20000)
+    print(f"{name}: iteration, each pair: {each / 1e3:.3f} us", flush=True)
+    c, python = least(100, lambda: calls.bench_read(*words(bytes_), count), lambda: of_python(column.read, 1))
+    show(f"{name}: read {len(ids)} pairs into new lists", c, python, 1e6, "ms")
+    WORST[READING] = max(WORST[READING], python / c)
+    (again,) = least(50, lambda: calls.bench_read_again(*words(bytes_), *map(pointer, kept), count))
+    show(f"{name}: the same, C into lists written before", again, python, 1e6, "ms")
+    WORST[READING] = max(WORST[READING], python / again)
 
 
 if __name__ == "__main__":
+    print(f"pages by {'ctypes' if _pages.MODULE is None else _pages.MODULE.__file__}, the library {_library._LIBRARY._name}", flush=True)
     with tempfile.TemporaryDirectory() as folder:
-        measure(c_calls(folder), numpy.random.default_rng(1))
+        calls, random = c_calls(folder), numpy.random.default_rng(1)
+        for column in columns(random):
+            measure_pages(calls, random, *column)
+            measure_others(calls, random, *column)
+    for what, most in PROMISED.items():
+        print(f"{what}: at most {WORST[what]:.2f}, promised {most}: {'kept' if WORST[what] <= most else 'NOT KEPT'}")
+    sys.exit(any(WORST[what] > most for what, most in PROMISED.items()))

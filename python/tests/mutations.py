@@ -1,4 +1,5 @@
-"""Takes the checks of numbers out of the package, one at a time, and sees that test_exact.py fails each time; then those of memory, by test_memory.py.
+"""Takes the checks of numbers out of the package, one at a time, and sees that test_exact.py fails each time; then those of memory, by test_memory.py,
+those of the answers, by test_columns.py, and those of the module for pages, by test_pages.py.
 
 (python3 python/tests/mutations.py [--without-numpy])
 """
@@ -7,8 +8,10 @@ import importlib
 import os
 import pathlib
 import shutil
+import signal
 import subprocess
 import sys
+import sysconfig
 import tempfile
 import unittest
 
@@ -60,10 +63,15 @@ NUMBERS = [
     (ANY, "sections", 'power = exact(power, "a rank power", 0, 2**64 - 1)', "pass"),
     (ANY, "column", "lent.bytes, exact_id(id), answer", "lent.bytes, id, answer"),
     (ANY, "column", "self._candidate(lent, exact_id(id))", "self._candidate(lent, id)"),
-    (ANY, "column", "lent, target = self._bytes(), exact_id(id)", "lent, target = self._bytes(), id"),
-    (ANY, "column", 'range(exact(count, "a count", 0, 2**63 - 1))', "range(count)"),
-    (ANY, "column", "exact_value(low), exact_value(high), b)", "low, exact_value(high), b)"),
-    (ANY, "column", "exact_value(low), exact_value(high), b)", "exact_value(low), high, b)"),
+    (ANY, "column", 'exact_id(id), exact(count, "a count", 0, 2**63 - 1)', 'id, exact(count, "a count", 0, 2**63 - 1)'),
+    (ANY, "column", 'exact_id(id), exact(count, "a count", 0, 2**63 - 1)', 'exact_id(id), exact(count, "a count", 0, 2**65)'),
+    (ANY, "column", 'exact_id(id), exact(count, "a count", 0, 2**63 - 1)', "exact_id(id), max(0, count)"),
+    (ANY, "column", "exact_ordinal(start), exact_value(low), exact_value(high))", "start, exact_value(low), exact_value(high))"),
+    (ANY, "column", "exact_ordinal(start), exact_value(low), exact_value(high))", "exact_ordinal(start), low, exact_value(high))"),
+    (ANY, "column", "exact_ordinal(start), exact_value(low), exact_value(high))", "exact_ordinal(start), exact_value(low), high)"),
+    (ANY, "column", "low, high = self._bytes(), exact_value(low), exact_value(high)", "low, high = self._bytes(), low, exact_value(high)"),
+    (ANY, "column", "low, high = self._bytes(), exact_value(low), exact_value(high)", "low, high = self._bytes(), exact_value(low), high"),
+    (ANY, "column", "exact_ordinal(ordinal), p)", "ordinal, p)"),
     (ANY, "_scores", "self._pairs(exact_id(id), self._hold())", "self._pairs(id, self._hold())"),
     (ANY, "layered", "correction.bytes, exact_id(id), a", "correction.bytes, id, a"),
     (ANY, "layered", "correction.bytes, exact_id(id), part", "correction.bytes, id, part"),
@@ -79,6 +87,57 @@ MEMORY = [
     (ANY, "_held", "if isinstance(self._buffer, _Map):", "if False:"),
     (ANY, "_held", 'raise ValueError("it is closed")', 'return lend(b"")'),
     (ANY, "_memory", "        if self._view.itemsize != size:", "        if False:"),
+    (ANY, "column", "return self._ordinals(lent, ", "return self._ordinals(Lent(bytes(self.buffer), 1), "),
+]
+CALLS = ("between", "between_other_editions", "pair_at", "read")
+ANSWERS = [
+    (WITH, "column", "places = self._left(lent, target) if self._checked else CHUNK", "places = self._left(lent, target)"),
+    (ANY, "column", "return len(self) - int(c.ordinal) if c.kind == FOUND else 0", "return len(self) - int(c.ordinal) - 1 if c.kind == FOUND else 0"),
+    (ANY, "column", "raise refused(readout.kind, readout.number)", "break"),
+    (ANY, "column", "            if readout.kind == ENDED:\n", "            if readout.count < places:\n"),
+    (ANY, "column", "            count -= readout.count\n", "            break\n"),
+    (ANY, "column", "target = int(ids[readout.count - 1]) + 1", "target = int(ids[readout.count - 1]) + 2"),
+    (ANY, "column", "first_places(ids, readout.count), first_places", "ids, first_places"),
+    (ANY, "column", "while count and places and target <= MAX_ID:", "while places and target <= MAX_ID:"),
+    (ANY, "column", "self._first_between(lent, found + 1, low, high)", "self._first_between(lent, found + 2, low, high)"),
+    (ANY, "column", "        if p.kind > ABSENT:\n", "        if False:\n"),
+    (ANY, "column", "        if b.kind > ABSENT:\n", "        if False:\n"),
+    (ANY, "column", "if p.kind == FOUND else None", "if True else None"),
+    (ANY, "_exact", "        return chunks[0]\n", "        return chunks[0][::-1]\n"),
+    (WITH, "_exact", "*(chunk[0] for chunk in chunks)", "*(chunk[0] for chunk in chunks[:-1])"),
+    (WITH, "_exact", "*(chunk[1] for chunk in chunks)", "*(chunk[1] for chunk in chunks[:-1])"),
+    (WITHOUT, "_exact", "        values.extend(more_values)\n", "        values = more_values\n"),
+]
+LOCKED = "done = answered(call, bytes, len, ids, narrow, lists);\n"
+PAGES = [
+    (WITH, "_page.c", "list->ndim == 1 && ", ""),
+    (WITH, "_page.c", "strchr(letters, list->format[0]) && ", ""),
+    (WITH, "_page.c", "(uintptr_t)list->buf % size == 0", "1"),
+    (WITH, "_page.c", 'fits(&ids, "iI", 4)', 'fits(&ids, "iIf", 4)'),
+    (WITH, "_page.c", 'fits(&ids, "iI", 4)', 'fits(&ids, "I", 4)'),
+    (WITH, "_page.c", 'fits(&ids, "lLqQ", 8)', 'fits(&ids, "lLqQd", 8)'),
+    (WITH, "_page.c", 'fits(&ids, "lLqQ", 8)', 'fits(&ids, "LQq", 8)'),
+    (WITH, "_page.c", "return all >> 32 == 0;", "return 1;"),
+    (WITH, "_page.c", "return all >> 32 == 0;", "return all >> 33 == 0;"),
+    (WITH, "_page.c", "all |= ids[i];", "all = ids[i];"),
+    (WITH, "_page.c", "any |= kinds[i];", "any = kinds[i];"),
+    (WITH, "_page.c", "kinds[i] ^= SIGNALFERN_ABSENT;", ""),
+    (WITH, "_page.c", "return any <= SIGNALFERN_ABSENT;", "return 1;"),
+    (WITH, "_page.c", "reply.refusal == 0 && ", ""),
+    (WITH, "_page.c", "Py_BEGIN_ALLOW_THREADS\n    done = answered(call, bytes, len, ids, narrow, lists);\n    Py_END_ALLOW_THREADS\n", LOCKED),
+    (WITH, "_page.c", "PyMem_RawFree(narrow);", ""),
+    (WITH, "_page.c", 'fits(&lists[VALUES], "lq", 8)', "1"),
+    (WITH, "_page.c", 'fits(&lists[ORDINALS], "LQ", 8)', "1"),
+    (WITH, "_page.c", 'fits(&lists[FOUND], "?", 1)', "1"),
+    (WITH, "_page.c", "PyBUF_WRITABLE | ", ""),
+    (WITH, "_page.c", "PyBuffer_Release(&lists[--lent]);", "lent--;"),
+    (WITH, "_page.c", "        PyBuffer_Release(&ids);\n", ""),
+    (WITH, "_page.c", "    Py_XDECREF(given[0]);\n", ""),
+    (WITH, "_page.c", "    Py_XDECREF(page);\n", ""),
+    (WITH, "_page.c", "PyErr_ExceptionMatches(PyExc_ValueError)", "0"),
+    (WITH, "_page.c", "!PyTuple_Check(words[WHAT]) || ", ""),
+    (WITH, "_page.c", " || PyTuple_GET_SIZE(words[WHAT]) != NEEDS)", ")"),
+    (WITH, "_page.c", "(PyObject *)Py_TYPE(words[IDS]) != PyTuple_GET_ITEM(words[WHAT], ARRAY)", "0"),
 ]
 CAUGHT, PASSED, UNUSABLE = 0, 1, 2
 
@@ -92,8 +151,11 @@ def tried(folder, tests):
             with open(os.devnull, "w") as nowhere:
                 os.dup2(nowhere.fileno(), 1)
                 os.dup2(nowhere.fileno(), 2)
+            signal.alarm(300)  # (an edit after which a test does not end is none to be kept here)
             sys.path[0] = str(folder)
-            suite = unittest.defaultTestLoader.loadTestsFromModule(importlib.import_module(tests))
+            for name in tests.split():
+                importlib.import_module(".".join(name.split(".")[:2]))
+            suite = unittest.defaultTestLoader.loadTestsFromNames(tests.split())
             ended = PASSED if unittest.TextTestRunner(failfast=True).run(suite).wasSuccessful() else CAUGHT
         finally:
             os._exit(ended)
@@ -106,21 +168,36 @@ def library():
     return subprocess.run([sys.executable, "-c", ask], cwd=HERE.parent, stdout=subprocess.PIPE, text=True, check=True).stdout.strip()
 
 
+def can_build_pages():
+    return numpy is not None and os.path.exists(os.path.join(sysconfig.get_path("include"), "Python.h"))
+
+
+def with_module(folder):
+    """Puts the module for pages into a copy of the package."""
+    (folder / "include").symlink_to(HERE.parents[1] / "include")
+    words = ["import sys, pathlib; sys.path.insert(0, sys.argv[1]); import _build; root = pathlib.Path(sys.argv[2])"]
+    words += ["_build.build_module(root, root / 'python' / 'signalfern' / f'_page{_build.MODULE_SUFFIX}')"]
+    return subprocess.run([sys.executable, "-c", "; ".join(words), str(HERE.parent / "signalfern"), str(folder)]).returncode == 0
+
+
 def as_expected(folder, name, old, new, tests, want):
     """Whether the tests of a package with this edit end as they must."""
+    package = folder / "python"
     for part in ("signalfern", "tests"):
-        shutil.copytree(HERE.parent / part, folder / part, ignore=shutil.ignore_patterns("__pycache__"))
-    file = folder / "signalfern" / f"{name}.py"
+        shutil.copytree(HERE.parent / part, package / part, ignore=shutil.ignore_patterns("__pycache__"))
+    file = package / "signalfern" / (name if "." in name else f"{name}.py")
     text = file.read_text()
     file.write_text(text.replace(old, new))
-    return text.count(old) == 1 and tried(folder, tests) == want
+    return text.count(old) == 1 and (tests != "tests.test_pages" or with_module(folder)) and tried(package, tests) == want
 
 
 def main():
     os.environ["SIGNALFERN_LIBRARY"] = library()
     other = WITHOUT if numpy is not None else WITH
     passed, failed = 0, 0
-    for tests, edits in (("tests.test_exact", NUMBERS), ("tests.test_memory", MEMORY)):
+    columns = " ".join(f"tests.test_columns.{name}" for name in ("Unchecked", *(f"BesidePlain.test_{each}" for each in CALLS)))
+    all_edits = [("tests.test_exact", NUMBERS), ("tests.test_memory", MEMORY), (columns, ANSWERS)]
+    for tests, edits in all_edits + [("tests.test_pages", PAGES)] * can_build_pages():
         # (the first is no edit, and must pass)
         for number, (where, name, old, new) in enumerate([(ANY, "__init__", '"""Score', '"""Score'), *edits]):
             if where != other:
@@ -128,7 +205,7 @@ def main():
                     right = as_expected(pathlib.Path(folder), name, old, new, tests, CAUGHT if number else PASSED)
                 passed, failed = passed + right, failed + (not right)
                 if not right:
-                    print(f"mutations: {tests} is not as it must be with {old.strip()!r} as {new.strip()!r} in {name}.py")
+                    print(f"mutations: {tests} is not as it must be with {old.strip()!r} as {new.strip()!r} in {name}")
     print(f"{passed} passed, {failed} failed, 0 skipped")
     return failed != 0
 

@@ -16,6 +16,8 @@ STRUCTS = {
     "page": _library.PageReply,
     "column": _library.Opened,
     "candidate": _library.Candidate,
+    "readout": _library.Readout,
+    "pair": _library.PairAt,
     "between": _library.Between,
     "layered": _library.LayeredAnswer,
     "part": _library.Part,
@@ -25,8 +27,8 @@ STRUCTS = {
 CALLS = {
     name: getattr(_library, {"open": "open_column"}.get(name, name))
     for name in (
-        "write write_planned plan check read open look_up_in look_up_page next_in first_between_in look_up_layered_in layered_values"
-        " set_write set_check set_find judge_section"
+        "write write_planned plan check read open look_up_in look_up_page next_in read_from_in pair_at_in first_between_from_in"
+        " look_up_layered_in layered_values set_write set_check set_find judge_section"
     ).split()
 }
 # (a cursor in a struct is its one number)
@@ -60,6 +62,8 @@ class Boundary(unittest.TestCase):
 
     def test_refusals_and_reasons(self):
         numbers = {name: int(number) for name, number in re.findall(r"SIGNALFERN_(\w+) = (\d+)", HEADER)}
+        kinds = {"FOUND": _library.FOUND, "ABSENT": _library.ABSENT, "NONE": _library.ABSENT, "ENDED": _library.ENDED, "ROOM": _library.ROOM}
+        self.assertEqual({name: numbers[name] for name in kinds}, kinds)
         for kind in errors.REFUSALS.values():
             self.assertEqual(numbers[kind.name], kind.refusal)
         self.assertEqual(sorted(errors.REFUSALS), [1, 2, 3, 4, *range(6, 18)])

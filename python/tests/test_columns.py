@@ -3,6 +3,7 @@
 import itertools
 import os
 import subprocess
+import tracemalloc
 import unittest
 
 from . import plain
@@ -24,6 +25,12 @@ CASES = [
     ([(65536, -1)], 1, 0, unhex("01 01 00 24 03 00 01 01 00 01 00 00 00 00 00 FF 7F 00 00 FF FF" + "00" * 16 + "01 00 00 00 06 00 00 00")),
     ([(0, -2), (2, 5), (7, 1)], 2, 9, unhex("02 03 09 10 00 04 03 01 02 00 00 02 00 00 00 02 00 07 00 FF 7F 00 00 FF FF 70 03")),
 ]
+
+
+def short_by(column, less):
+    """A column of values 0, for which no byte stands in the value section, with a header that counts fewer pairs."""
+    count, end = plain.number(column, 1)
+    return column[:1] + plain.as_number(count - less) + column[end:]
 
 
 class Documents(unittest.TestCase):
@@ -108,12 +115,17 @@ class BesidePlain(unittest.TestCase):
             self.assertEqual([each.tolist() for each in column.read()], [ids, values])
             self.assertEqual(list(column), list(zip(ids, values)))
             self.assertEqual((len(column), column.power), (len(ids), power))
+            self.assertEqual(list(Column(bytes_, checked=False)), list(zip(ids, values)))
             middle = ids[len(ids) // 2] if ids else 5
-            for start, count in ((0, 3), (middle, 5), (ids[-1] - 1 if ids else 9, 2**63 - 1), (2147352575, 1)):
+            for start, count in ((0, 0), (0, 3), (0, 4096), (1, 5000), (middle, 5), (middle, 2**63 - 1), (ids[-1] - 1 if ids else 9, 2), (2147352575, 1)):
                 want = [pair for pair in zip(ids, values) if pair[0] >= start][:count]
-                got = column.read_from(start, count)
-                self.assertEqual(list(zip(*(each.tolist() for each in got))), want)
+                for asked in (column, Column(bytes_, checked=False)):
+                    got = asked.read_from(start, count)
+                    self.assertEqual(list(zip(*(each.tolist() for each in got))), want)
+                    self.assertEqual([len(each) for each in got], [len(want)] * 2)
                 self.assertEqual(list(itertools.islice(column.iter_from(start), len(want))), want)
+                if count == 0:
+                    continue
                 first = column.next(start)
                 self.assertEqual(first and first[:2], want[0] if want else None)
                 self.assertEqual(first and first.ordinal, ids.index(want[0][0]) if want else None)
@@ -141,12 +153,32 @@ class BesidePlain(unittest.TestCase):
                 got = (page.values[place], page.ordinals[place], bool(page.found[place]))
                 self.assertEqual(got, (listed[id], ids.index(id), True) if id in listed else (0, 0, False))
 
-    def test_first_between(self):
+    def test_pair_at(self):
+        for ids, values, edition, power, bytes_ in self.columns():
+            column, count = Column(bytes_), len(ids)
+            ordinals = {0, 1, 2, count // 3, count // 2, 4095, 4096, 16383, 16384, count - 2, count - 1}
+            for ordinal in ordinals:
+                if 0 <= ordinal < count:
+                    self.assertEqual(column.pair_at(ordinal), (ids[ordinal], values[ordinal], ordinal))
+            for ordinal in (count, count + 1, 2**32, 2**64 - 1):
+                self.assertIsNone(column.pair_at(ordinal))
+
+    def test_between(self):
         for name, ids, values in lists():
             column = Column(signalfern.write(ids, values, Edition.RUNS))
             for low, high in ((-(2**63), 2**63 - 1), (0, 0), (1, 0), (3, 4), (10**6, 10**12), (-(2**63), -1)):
-                want = next((at for at, value in enumerate(values) if low <= value <= high), None)
-                self.assertEqual(column.first_between(low, high), want)
+                want = [at for at, value in enumerate(values) if low <= value <= high]
+                self.assertEqual(column.first_between(low, high), want[0] if want else None)
+                self.assertEqual(list(column.all_between(low, high)), want)
+                for start in (0, 1, 16383, 16384, 16385, 19000, len(ids) - 1, len(ids), 2**64 - 1):
+                    self.assertEqual(column.first_between(low, high, max(start, 0)), next((at for at in want if at >= start), None))
+
+    def test_between_other_editions(self):
+        for edition in (1, 2, 4):
+            column = Column(signalfern.write([1, 2], [-(2**60), 2**60], edition))
+            for ask in (column.first_between, column.all_between, lambda low, high: column.first_between(low, high, 5)):
+                with self.assertRaises(errors.Edition):
+                    ask(0, 1)
 
     def test_plans(self):
         for name, ids, values in lists():
@@ -175,12 +207,38 @@ class Unchecked(unittest.TestCase):
         # a block that claims three ids of a list of none (docs/FORMAT.md, step 4): header of no pairs, with a section of one block
         broken = unhex("01 00 09 10 00 00 00 01 00") + FIRST[10:26]
         column = Column(broken, checked=False)
-        for ask in (lambda: column[7], lambda: column.get(7), lambda: 7 in column, lambda: column.look_up(7), lambda: column.next(7)):
+        asks = [lambda: column[7], lambda: column.get(7), lambda: 7 in column, lambda: column.look_up(7), lambda: column.next(7), lambda: list(column)]
+        for ask in (*asks, lambda: column.read_from(0, 1), lambda: column.read_from(7, 2**63 - 1), lambda: next(column.iter_from(1))):
             with self.assertRaises(errors.Broken):
                 ask()
         with self.assertRaises(errors.Broken) as caught:
             column.look_up_many([70000, 7, 7])
         self.assertIn("number 1 of the list", str(caught.exception))
+
+    def test_broken_after_some_pairs(self):
+        """A step that fails after good pairs: these can be had, and what goes on is refused, so that no short list passes for a whole one."""
+        good = list(range(0, 10000, 2))
+        for more in (1, 10, 4096):
+            ids = [*good, *range(65536, 65536 + more)]
+            # (the last block then claims more ids than are left of the list: docs/FORMAT.md, step 4)
+            column = Column(short_by(signalfern.write(ids, [0] * len(ids), power=0), 1), checked=False)
+            for start, count in ((0, 5000), (1, 4999), (8180, 12), (8180, 910), (9998, 1)):
+                want = [id for id in good if id >= start][:count]
+                self.assertEqual([each.tolist() for each in column.read_from(start, count)], [want, [0] * count])
+                self.assertEqual(list(itertools.islice(column.iter_from(start), count)), [(id, 0) for id in want])
+            for start in (0, 8180, 9998, 9999, 65536):
+                with self.assertRaises(errors.Broken):
+                    column.read_from(start, 5001)
+                pairs, got = column.iter_from(start), []
+                with self.assertRaises(errors.Broken):
+                    for pair in pairs:
+                        got.append(pair)
+                self.assertEqual(got, [(id, 0) for id in good if id >= start])
+            self.assertEqual(column.pair_at(4999), (9998, 0, 4999))
+            self.assertIsNone(column.pair_at(4999 + more))
+            if more > 1:
+                with self.assertRaises(errors.Broken):
+                    column.pair_at(5000)
 
     def test_a_false_count_allocates_nothing(self):
         # a header that claims 2147352576 pairs: 24 GiB, were they made before the check
@@ -189,6 +247,15 @@ class Unchecked(unittest.TestCase):
         self.assertEqual(len(column), 2147352576)
         with self.assertRaises(errors.Damaged):
             column.read()
+        one = Column(short_by(signalfern.write([5], [0]), 1 - 2147352576), checked=False)
+        tracemalloc.start()
+        try:
+            for each, ids in ((column, []), (one, [5])):
+                self.assertEqual(each.read_from(0, 2**63 - 1)[0].tolist(), ids)
+                self.assertEqual([id for id, _ in each], ids)
+            self.assertLess(tracemalloc.get_traced_memory()[1], 10**6)
+        finally:
+            tracemalloc.stop()
 
     def test_header_is_read_at_once(self):
         with self.assertRaises(errors.Length):

@@ -67,6 +67,7 @@ class Numbers(unittest.TestCase):
         ways = [lambda value: write([ID], [value]), lambda value: write([1, 2], (1, value)), lambda value: plan([value])]
         ways += [lambda value: write_planned([ID], [1], [value, 3]), lambda value: write_planned([ID], [value], [])]
         ways += [lambda value: self.column.first_between(value, 9), lambda value: self.column.first_between(0, value)]
+        ways += [lambda value: self.column.all_between(value, 9), lambda value: self.column.all_between(0, value)]
         ways += [lambda value: self.both.first_between(value, 9), lambda value: self.both.first_between(0, value)]
         for way in ways:
             for value in (2**63, 2**64 + 5, -(2**63) - 1, 5 - 2**64):
@@ -90,6 +91,15 @@ class Numbers(unittest.TestCase):
             self.refused(OverflowError, self.column.read_from, 0, count)
             self.refused(OverflowError, self.both.read_from, 0, count)
         self.assertEqual([len(each.read_from(0, HasIndex())[0]) for each in (self.column, self.both)], [1, 1])
+        ordinals = (self.column.pair_at, lambda ordinal: self.column.first_between(0, 99, ordinal))
+        for ordinal in (-1, 2**64, -(2**64)):
+            for way in ordinals:
+                self.refused(OverflowError, way, ordinal)
+        for ordinal in [*NO_INTEGERS, HasInt()]:
+            for way in ordinals:
+                self.refused(TypeError, way, ordinal)
+        self.assertEqual([way(HasIndex()) for way in ordinals], [None, None])
+        self.assertEqual([way(0) for way in ordinals], [(ID, 77, 0), 0])
         for number in (1.0, True, "1", None):
             self.refused(TypeError, lambda: write([ID], [1], number))
             self.refused(TypeError, lambda: write([ID], [1], 1, number))

@@ -14,6 +14,7 @@ from signalfern import Column, Layered, Set
 
 PAIRS = [(0, 150), (2, 140), (7, 135)]
 COLUMN = signalfern.write([id for id, _ in PAIRS], [value for _, value in PAIRS])
+RUNS = signalfern.write([id for id, _ in PAIRS], [value for _, value in PAIRS], 3)
 
 
 class Buffers(unittest.TestCase):
@@ -57,7 +58,9 @@ class Buffers(unittest.TestCase):
         column.close()
         ways = [lambda: column[7], lambda: column.get(7), lambda: 7 in column, lambda: column.look_up(7), lambda: column.next(7), lambda: column.read()]
         ways += [lambda: column.read_from(0, 1), lambda: column.look_up_many([7]), lambda: list(column), lambda: iter(column), lambda: column.buffer]
-        ways += [lambda: column.digest(), lambda: column.first_between(0, 1)]
+        ways += [lambda: column.digest(), lambda: column.first_between(0, 1), lambda: column.all_between(0, 1), lambda: column.pair_at(0)]
+        if numpy is not None:
+            ways.append(lambda: column.look_up_many(numpy.array([7], "uint32")))
         for way in ways:
             with self.assertRaisesRegex(ValueError, "closed"):
                 way()
@@ -103,11 +106,32 @@ class Files(unittest.TestCase):
             with self.assertRaisesRegex(ValueError, "closed"):
                 column[7]
 
+    def test_a_search_under_way_holds_the_file(self):
+        self.path.write_bytes(RUNS)
+        column = Column.open(self.path)
+        ordinals = column.all_between(136, 150)
+        for want in (0, 1):
+            with self.assertRaises(BufferError):
+                column.close()
+            self.assertEqual(next(ordinals), want)
+        self.assertEqual(list(ordinals), [])
+        column.close()
+
     def test_an_iteration_at_its_end_lets_go(self):
         column = Column.open(self.path)
         pairs = iter(column)
         self.assertEqual(list(pairs), PAIRS)
         column.close()
+
+    def test_a_closed_buffer_stays_for_an_iteration(self):
+        owner = bytearray(RUNS)
+        column = Column(owner)
+        pairs, ordinals = iter(column), column.all_between(0, 1000)
+        column.close()
+        with self.assertRaises(BufferError):
+            owner.clear()
+        self.assertEqual((list(pairs), list(ordinals)), (PAIRS, [0, 1, 2]))
+        owner.clear()
 
     def test_answers_outlive_the_file(self):
         with Column.open(self.path) as column:
