@@ -5,7 +5,8 @@ use Rattle.format.specs.Kit.{drop, drop-at}
 use Rattle.format.specs.Limits.{maxBlocks, startLimit}
 use Rattle.format.specs.Refusals.{Outcome, done, refused, LENGTHS, POWER, ORDER, RANGE, ROOM, SHORT, NUMBER, EDITION, HEADER, LENGTH, BUFFER, DAMAGED}
 use Rattle.format.specs.Refusals.{ID, BROKEN, BACK, PLAN, writeNumbers, plannedNumbers, setWriteNumbers, openNumbers, checkNumbers, readNumbers, lookUpNumbers}
-use Rattle.format.specs.Refusals.{nextNumbers, betweenNumbers, lookUpInNumbers, nextInNumbers, betweenInNumbers, pairAtNumbers, pairAtInNumbers, setCheckNumbers, setFindNumbers}
+use Rattle.format.specs.Refusals.{nextNumbers, betweenNumbers, lookUpInNumbers, nextInNumbers, betweenInNumbers, pairAtNumbers, pairAtInNumbers}
+use Rattle.format.specs.Refusals.{setCheckNumbers, setFindNumbers}
 use Rattle.format.specs.Bytes.{bytesOf}
 use Rattle.format.specs.Ids.{Run, runs, blockOf, endBlock, jumps, entryBytes, blocks, idSection, startOf}
 use Rattle.format.specs.Runs.{AllFine, AscBlocks, endOf, totalBytes}

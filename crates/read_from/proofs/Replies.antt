@@ -1,5 +1,6 @@
 -- What comes next after a reading, and its reply and lists. Assumes nothing.
-use Rattle.format.specs.Kit.{_≡_, refl, sym, ap, _∙_, inl, inr, ⊎-elim, Bool, true, false, List, [], _∷_, _++_, ℕ, _+_, _-_, _*_, _≤_, _<_, arith, ℤ, length, drop}
+use Rattle.format.specs.Kit.{_≡_, refl, sym, ap, _∙_, inl, inr, ⊎-elim, Bool, true, false, List, [], _∷_, _++_, ℕ, _+_, _-_, _*_, _≤_, _<_, arith, ℤ}
+use Rattle.format.specs.Kit.{length, drop}
 use Rattle.format.specs.Refusals.{Outcome, done, refused, BROKEN}
 use Rattle.format.specs.Opening.{Opened}
 use Rattle.format.specs.Next as Nx

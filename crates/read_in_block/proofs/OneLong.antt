@@ -1,5 +1,6 @@
 -- The pairs of one long of a dense block: where no index is left, and where some are. Assumes nothing.
-use Rattle.format.specs.Kit.{_≡_, refl, ap, _∙_, inl, inr, false, List, ℕ, _+_, _-_, _*_, _/_, _≤_, _<_, min, arith, onesIn, ℤ, length, sets, ltb, ltb-true, ltb-false}
+use Rattle.format.specs.Kit.{_≡_, refl, ap, _∙_, inl, inr, false, List, ℕ, _+_, _-_, _*_, _/_, _≤_, _<_, min, arith, onesIn, ℤ}
+use Rattle.format.specs.Kit.{length, sets, ltb, ltb-true, ltb-false}
 use Rattle.format.specs.Limits.{Power}
 use Rattle.format.specs.Ids.{dense, kindOf}
 use Rattle.format.specs.Opening.{Opened, idPart, valueOf}

@@ -113,7 +113,8 @@ returns-2 c =
       place = w .place;
       left = λ z.
           let e = rw (m .rank-bytes .ensures .0) at (c .set-from .ensures z) in
-          dense-left (a .bytes .now) (columnOf (a .column)) (a .b) (a .block) (s .pre .1) (g .result .place) (s .pre .2) _ (id-part (parted (n .before .before)))
+          dense-left (a .bytes .now) (columnOf (a .column)) (a .b) (a .block) (s .pre .1) (g .result .place) (s .pre .2) _
+          (id-part (parted (n .before .before)))
           (n .size3 .result) (n .size3 .ensures) (power n) (e .0) (e .2) (e .1);
       stops = inl (c .before .if2 .taken);
     }
@@ -169,6 +170,11 @@ loop-again c =
       λ h. rw e (at-long (n .size3 .result) (power n) _ (a .block .start) (l .r / 64 + 1) (c .before-next .ensures (omega (arith, h)))),
     )
 
+returns-3 : tie.Need-returns-3 Inv-loop μ-loop
+returns-3 c =
+    let l = c .before .loop in
+    record { reads = l .inv .0; place = l .inv .1; left = λ z. false-true z; stops = inr (omega (arith, l .inv .1, c .loop-test .left)) }
+
 pub pairs-spec : {M : Type 1} → statement M
 pairs-spec =
     tie.close (tie.spec Inv-loop μ-loop
@@ -207,4 +213,4 @@ pairs-spec =
     (λ c. omega (arith, c .before .before .before .before .before .before .before .before .before .before .before .before .before .loop-test .taken))
     loop-again
     (λ c. c .before .loop .inv .0 .in-ids .kept) (λ c. c .before .loop .inv .0 .in-values .kept)
-    (λ c. let l = c .before .loop in record { reads = l .inv .0; place = l .inv .1; left = λ z. false-true z; stops = inr (omega (arith, l .inv .1, c .loop-test .left)) }))
+    returns-3)
