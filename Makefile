@@ -1,9 +1,10 @@
-# Builds and installs the library for C, and the tool.
+# Builds and installs the library for C, the tool, and the extension of SQLite where SQLite's header is there.
 #
 #   make                    build all of it under target/package
 #   make check              try what was built: C programs against archive and shared library
 #   make install            into /usr/local; prefix=DIR for elsewhere, DESTDIR=DIR for packagers
 #   make install-library    the library alone: no cargo needed
+#   make install-sqlite     the extension of SQLite alone
 #   make uninstall          take away what `make install` put there
 #   make deb                Debian packages of library, header and tool, under target/package
 #
@@ -29,6 +30,8 @@ hwcapsdir = $(libdir)/glibc-hwcaps
 bashdir = $(datarootdir)/bash-completion/completions
 zshdir = $(datarootdir)/zsh/site-functions
 fishdir = $(datarootdir)/fish/vendor_completions.d
+# SQLite finds an extension by its name in the loader's own folders. It takes the library that lies beside it.
+sqlitedir = $(libdir)
 
 INSTALL = install
 CFLAGS ?= -O2
@@ -46,9 +49,12 @@ SHARED := libsignalfern.so.$(VERSION)
 PROCESSOR := $(patsubst x86_64,x86-64,$(firstword $(subst -, ,$(shell $(CC) -dumpmachine))))
 LEVEL = $(if $(or $(SIGNALFERN_LIB_DIR),$(filter-out 0,$(PROVE))),,$(filter x86-64-v3,$(PROCESSOR)-v3))
 
-all: library $(BUILD)/tool
+# The extension of SQLite, where its header is there.
+EXTENSION := $(shell echo '\#include <sqlite3ext.h>' | $(CC) $(CPPFLAGS) -E -x c - >/dev/null 2>&1 && echo signalfern.so)
+
+all: library $(BUILD)/tool $(EXTENSION:%=$(BUILD)/%)
 library: $(BUILD)/libsignalfern.a $(BUILD)/$(SHARED) $(LEVEL:%=$(BUILD)/%/$(SHARED)) $(BUILD)/signalfern.pc
-.PHONY: all library check install install-library install-tool uninstall deb clean FORCE
+.PHONY: all library check install install-library install-tool install-sqlite uninstall deb clean FORCE
 
 ifneq ($(SIGNALFERN_LIB_DIR),)
 ARCHIVE = $(SIGNALFERN_LIB_DIR)/libsignalfern_c.a
@@ -96,6 +102,11 @@ $(BUILD)/$(SHARED): $(BUILD)/libsignalfern.a c/signalfern.map
 $(BUILD)/x86-64-v3/$(SHARED): $(BUILD)/x86-64-v3/libsignalfern_c.a $(BUILD)/names.o c/signalfern.map
 	$(link_shared)
 
+$(BUILD)/signalfern.so: sqlite/signalfern.c include/signalfern.h $(BUILD)/$(SHARED)
+	ln -sf $(SHARED) $(BUILD)/$(SONAME)
+	$(CC) $(CPPFLAGS) $(CFLAGS) -std=c11 -Wall -Wextra -Wpedantic -fPIC -fvisibility=hidden -Iinclude $(LDFLAGS) -shared -Wl,-z,defs \
+	    -Wl,-rpath,'$$ORIGIN' $< $(BUILD)/$(SHARED) -o $@
+
 # Made anew each time, since the folders may be others.
 below_prefix = $(patsubst $(prefix)/%,$${prefix}/%,$(1))
 $(BUILD)/signalfern.pc: signalfern.pc.in $(BUILD)/from FORCE
@@ -113,7 +124,7 @@ $(BUILD)/tool: $(ARCHIVE) $(BUILD)/from rust/build.rs rust/Cargo.toml rust/Cargo
 	cp rust/target/release/signalfern $@
 endif
 
-install: install-library install-tool
+install: install-library install-tool install-sqlite
 
 install-library: library
 	$(INSTALL) -d '$(DESTDIR)$(includedir)' '$(DESTDIR)$(libdir)' '$(DESTDIR)$(pkgconfigdir)'
@@ -151,10 +162,19 @@ install-tool: $(BUILD)/tool
 	$(call put_help,--completions zsh,$(ZSH),^#compdef )
 	$(call put_help,--completions fish,$(FISH),^complete )
 
+ifneq ($(EXTENSION),)
+install-sqlite: $(BUILD)/$(EXTENSION)
+	$(INSTALL) -d '$(DESTDIR)$(sqlitedir)'
+	$(INSTALL) -m 755 $< '$(DESTDIR)$(sqlitedir)/$(EXTENSION)'
+else
+install-sqlite:
+	@echo 'not built, since sqlite3ext.h is not there: $(sqlitedir)/signalfern.so'
+endif
+
 uninstall:
 	rm -f $(foreach file,$(includedir)/signalfern.h $(libdir)/libsignalfern.a $(libdir)/libsignalfern.so \
 	    $(libdir)/$(SONAME) $(libdir)/$(SHARED) $(hwcapsdir)/x86-64-v3/$(SONAME) $(hwcapsdir)/x86-64-v3/$(SHARED) \
-	    $(pkgconfigdir)/signalfern.pc $(bindir)/signalfern \
+	    $(pkgconfigdir)/signalfern.pc $(bindir)/signalfern $(sqlitedir)/signalfern.so \
 	    $(MAN) $(BASH) $(ZSH) $(FISH),'$(DESTDIR)$(file)')
 	rm -f '$(DESTDIR)$(mandir)'/man3/signalfern_*.3
 

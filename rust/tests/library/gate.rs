@@ -30,7 +30,7 @@ echo 'dist: 3 passed, 0 failed'; echo '1 passed, 0 failed, 1 skipped'";
 fn gate(rt: &str, cargo: Option<&str>) -> (i32, String) {
     let folder = Folder::new("gate");
     let made = folder.shell(
-        "mkdir bin crates python rust temporary; touch crates.txt
+        "mkdir bin crates python rust sqlite temporary; touch crates.txt
          for program in awk bash cat chmod cp df dirname findmnt grep ln mkdir mktemp nproc rm sleep tee touch; do
              found=$(command -v $program) && ln -s \"$found\" bin
          done; :",
@@ -45,6 +45,7 @@ fn gate(rt: &str, cargo: Option<&str>) -> (i32, String) {
         (".ci/archive", ARCHIVE),
         (".ci/contracts", contracts),
         ("python/test", "echo '3 passed, 0 failed'"),
+        ("sqlite/test", "echo '2 passed, 0 failed, 4 skipped'"),
     ] {
         script(&folder.0.join(name), body);
     }
@@ -73,32 +74,37 @@ fn the_last_line_counts_all_and_what_did_not_run() {
             PROVED,
             Some(TESTS_PASS),
             0,
-            "184 passed, 0 failed, 2 skipped",
+            "186 passed, 0 failed, 6 skipped",
         ),
-        (PROVED, Some(&late), 0, "184 passed, 0 failed, 2 skipped"),
+        (PROVED, Some(&late), 0, "186 passed, 0 failed, 6 skipped"),
         (
             PROVED,
             Some(&passed_over),
             0,
-            "183 passed, 0 failed, 3 skipped",
+            "185 passed, 0 failed, 7 skipped",
         ),
         (
             PROVED,
             Some(ONE_TEST_FAILS),
             1,
-            "183 passed, 1 failed, 1 skipped",
+            "185 passed, 1 failed, 5 skipped",
         ),
         (
             PROVED,
             Some("exit 101"),
             1,
-            "177 passed, 1 failed, 1 skipped",
+            "179 passed, 1 failed, 5 skipped",
         ),
-        (PROVED, Some("exit 0"), 1, "177 passed, 1 failed, 1 skipped"),
-        (PROVED, Some(killed), 1, "177 passed, 1 failed, 1 skipped"),
-        (PROVED, None, 1, "177 passed, 1 failed, 1 skipped"),
-        (NOT_PROVED, Some(TESTS_PASS), 1, "143 passed, 4 failed"),
-        (killed, Some(TESTS_PASS), 1, "3 passed, 4 failed"),
+        (PROVED, Some("exit 0"), 1, "179 passed, 1 failed, 5 skipped"),
+        (PROVED, Some(killed), 1, "179 passed, 1 failed, 5 skipped"),
+        (PROVED, None, 1, "179 passed, 1 failed, 5 skipped"),
+        (
+            NOT_PROVED,
+            Some(TESTS_PASS),
+            1,
+            "145 passed, 4 failed, 4 skipped",
+        ),
+        (killed, Some(TESTS_PASS), 1, "5 passed, 4 failed, 4 skipped"),
     ] {
         assert_eq!(
             gate(rt, cargo),

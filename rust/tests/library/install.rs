@@ -81,6 +81,14 @@ const LIBRARY: [&str; 6] = [
     "lib/pkgconfig/signalfern.pc",
 ];
 
+/// Whether SQLite's header is there, without which its extension is left out.
+fn has_sqlite_header() -> bool {
+    let compiler = Command::new("cc")
+        .args(["-E", "-include", "sqlite3ext.h", "-x", "c", "/dev/null"])
+        .output();
+    compiler.is_ok_and(|output| output.status.success())
+}
+
 /// What pkg-config tells of the library below a prefix.
 fn pkg_config(prefix: &str, words: &[&str]) -> Vec<String> {
     let output = Command::new("pkg-config")
@@ -259,6 +267,9 @@ esac"#;
     let below = |name: &str| format!("usr/{}", name.replace("lib/", "lib64/"));
     let mut expected: BTreeSet<String> = LIBRARY.into_iter().map(below).collect();
     expected.insert("usr/bin/signalfern".into());
+    if has_sqlite_header() {
+        expected.insert("usr/lib64/signalfern.so".into());
+    }
     let library_and_tool = expected.clone();
     let pages = [
         "man/man1/signalfern.1",
