@@ -50,8 +50,11 @@
 //! assert_eq!(out, [0; 64]);
 //! ```
 
-#[cfg(not(all(target_arch = "x86_64", target_os = "linux")))]
-compile_error!("the proved library is built for x86-64 Linux alone");
+#[cfg(not(all(
+    any(target_arch = "x86_64", target_arch = "aarch64"),
+    target_os = "linux"
+)))]
+compile_error!("the library is built for Linux on x86-64 and ARM64 alone");
 
 mod between;
 mod calls;
