@@ -16,6 +16,7 @@ mod damage;
 mod dist;
 mod divisor;
 mod document;
+mod documents;
 mod editions;
 mod examples;
 mod fetching;
