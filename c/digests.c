@@ -17,7 +17,7 @@ enum { FULL = 65536, PAIRS = FULL + 14000, BYTES = 1000000, PAGE = 64, DAMAGED =
 static uint32_t ids[PAIRS], back_ids[PAIRS], page_ids[PAGE];
 static int64_t values[PAIRS], back_values[PAIRS], page_values[PAGE], table[SIGNALFERN_MAX_TABLE];
 static uint64_t ordinals[PAGE];
-static uint8_t column[BYTES], correction[BYTES], set[BYTES], kinds[PAGE];
+static uint8_t column[BYTES], correction[BYTES], set[BYTES], kinds[PAGE], columns[PAIRS];
 
 static uint64_t digest, calls, state = 20261117;
 
@@ -189,6 +189,40 @@ static void ask_layers(const uint8_t *bytes, size_t len, signalfern_column c, si
     }
 }
 
+static void take_layered_page(signalfern_layered_page page)
+{
+    calls++;
+    take(page.refusal), take(page.number), take(page.machine_words), take(page.correction_words);
+    for (size_t i = 0; i < PAGE; i++)
+        take(ordinals[i]), take((uint64_t)page_values[i]), take(kinds[i]), take(columns[i]);
+}
+
+static void take_layered_readout(signalfern_layered_readout r, size_t room)
+{
+    calls++;
+    take(r.kind), take(r.number), take(r.column), take(r.count);
+    for (size_t i = 0; i < room; i++)
+        take(back_ids[i]), take((uint64_t)back_values[i]), take(columns[i]);
+}
+
+/* A page and readings of both columns, into lists of any lengths; those of a reading that are longer than its buffers too. */
+static void ask_layers_at_once(const uint8_t *bytes, size_t len, signalfern_column c, size_t top_len)
+{
+    signalfern_column top = opened(correction, top_len);
+    take_layered_page(signalfern_look_up_layered_page(bytes, len, correction, top_len, page_ids, PAGE, ordinals, PAGE,
+                                                      page_values, PAGE, kinds, PAGE, columns, PAGE));
+    take_layered_page(signalfern_look_up_layered_page_in(c, bytes, len, top, correction, top_len, page_ids, PAGE / 2, ordinals,
+                                                         PAGE, page_values, PAGE, kinds, PAGE, columns, any(PAGE)));
+    for (int i = 0; i < 8; i++) {
+        uint32_t id = i % 4 ? ids[any(PAIRS)] : (uint32_t)any((uint64_t)SIGNALFERN_MAX_ID + 3);
+        size_t room = i % 4 == 1 ? 2000 : ROOM, ids_len = any(room), values_len = any(room), columns_len = any(room);
+        take_layered_readout(signalfern_read_layered_from(bytes, len, correction, top_len, id, back_ids, ids_len, back_values,
+                                                          values_len, columns, columns_len), room);
+        take_layered_readout(signalfern_read_layered_from_in(c, bytes, len, top, correction, top_len, id / 2, back_ids,
+                                                             columns_len, back_values, ids_len, columns, values_len), room);
+    }
+}
+
 /* Everything that can be asked of a column, sound or not. */
 static void ask(const uint8_t *bytes, size_t len, size_t top_len)
 {
@@ -201,6 +235,7 @@ static void ask(const uint8_t *bytes, size_t len, size_t top_len)
     walk(bytes, len, c);
     read_on(bytes, len, c);
     ask_layers(bytes, len, c, top_len);
+    ask_layers_at_once(bytes, len, c, top_len);
     size_t start = c.refusal ? 0 : c.start, section = c.refusal ? len : c.id_bytes;
     for (uint32_t order = 0; order < 2; order++)
         take_judgement(signalfern_judge_section(bytes + start, section, c.jump_count, c.power, order));

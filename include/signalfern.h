@@ -30,7 +30,7 @@
  *   NULL only where its length is 0; it is then not followed. A pointer to a struct is never NULL.
  * - A pointer is aligned as its type asks: 4 bytes for uint32_t, 8 for int64_t, uint64_t and the structs,
  *   none for uint8_t. This holds where the length is 0 too (NULL is aligned).
- * - What a call writes to (out; ids and values of a reading; ordinals, values and kinds of a page; the
+ * - What a call writes to (out; ids, values and columns of a reading; ordinals, values, kinds and columns of a page; the
  *   planner's table; the answer) overlaps nothing else that is lent to the same call, and no other thread
  *   uses it during the call.
  *   What a call only reads may be read by others at the same time. No lent array takes up more than
@@ -184,7 +184,7 @@ typedef struct {
     signalfern_cursor cursor; /* Found or none: the target is its last. Refused: the cursor as it was. */
 } signalfern_candidate;
 
-/* The kinds of a readout that are no refusal. Refusal 1 is never given by signalfern_read_from. */
+/* The kinds of a readout that are no refusal. Refusal 1 is never given by a reading. */
 enum { SIGNALFERN_MORE = 0, SIGNALFERN_ENDED = 1 };
 
 /* What signalfern_read_from answers beside the lists that it fills. */
@@ -223,6 +223,22 @@ typedef struct {
     uint64_t machine_words;    /* Found or absent: how many 64-bit words of a bitmap were looked at in */
     uint64_t correction_words; /* each column, 0 to 1024; 0 for one that was not looked in. */
 } signalfern_layered;
+
+/* What signalfern_look_up_layered_page answers beside the lists that it fills. */
+typedef struct {
+    uint64_t refusal;          /* 0: done. Otherwise SIGNALFERN_BUFFER. */
+    uint64_t number;           /* How many ids there are: done, the places filled; refused, those needed. */
+    uint64_t machine_words;    /* Done: the words of all its look-ups in each column, each sum modulo 2^64. */
+    uint64_t correction_words; /* Refused: 0. */
+} signalfern_layered_page;
+
+/* What signalfern_read_layered_from answers beside the lists that it fills. */
+typedef struct {
+    uint64_t kind;   /* SIGNALFERN_MORE, SIGNALFERN_ENDED, or the refusal: 7 to 11, 14, 15. */
+    uint64_t number; /* Refused: the number with the refusal. Otherwise 0. */
+    uint64_t column; /* Refused: the column that refused. Otherwise 0. */
+    uint64_t count;  /* More or ended: how many pairs were placed. Refused: 0. */
+} signalfern_layered_readout;
 
 /* A part of one of two columns: len bytes from its byte start on. */
 typedef struct {
@@ -680,6 +696,115 @@ static inline signalfern_part signalfern_layered_values(const uint8_t *machine, 
     signalfern_part part;
     signalfern_layered_values_to(machine, machine_len, correction, correction_len, id, &part);
     return part;
+}
+
+/*
+ * Looks a page of ids up in a machine column with a correction on top, both headers read once: into place i
+ * of each list what signalfern_look_up_layered answers for ids[i], in any order and with repeats. kinds[i] is
+ * SIGNALFERN_FOUND, SIGNALFERN_ABSENT, or the refusal's number; columns[i] is the column that holds the id or
+ * refused it, and 0 where it is absent. Absent and refused places hold ordinal 0 and value 0. Places after the
+ * ids stay as they were. The machine column is not read where no id is absent in the correction.
+ *
+ * Refused: 12 where a list is shorter than the ids, before any byte is read or written.
+ */
+void signalfern_look_up_layered_page_to(const uint8_t *machine, size_t machine_len, const uint8_t *correction,
+                                        size_t correction_len, const uint32_t *ids, size_t ids_len,
+                                        uint64_t *ordinals, size_t ordinals_len, int64_t *values,
+                                        size_t values_len, uint8_t *kinds, size_t kinds_len, uint8_t *columns,
+                                        size_t columns_len, signalfern_layered_page *reply);
+
+static inline signalfern_layered_page
+signalfern_look_up_layered_page(const uint8_t *machine, size_t machine_len, const uint8_t *correction,
+                                size_t correction_len, const uint32_t *ids, size_t ids_len, uint64_t *ordinals,
+                                size_t ordinals_len, int64_t *values, size_t values_len, uint8_t *kinds,
+                                size_t kinds_len, uint8_t *columns, size_t columns_len)
+{
+    signalfern_layered_page reply;
+    signalfern_look_up_layered_page_to(machine, machine_len, correction, correction_len, ids, ids_len, ordinals,
+                                       ordinals_len, values, values_len, kinds, kinds_len, columns, columns_len,
+                                       &reply);
+    return reply;
+}
+
+/*
+ * The same in two columns opened before, each with its own bytes. Any other columns are allowed too, as
+ * for signalfern_look_up_in: 10 and 11 in the place of 7 to 11.
+ */
+void signalfern_look_up_layered_page_in_to(const signalfern_column *machine_column, const uint8_t *machine,
+                                           size_t machine_len, const signalfern_column *correction_column,
+                                           const uint8_t *correction, size_t correction_len, const uint32_t *ids,
+                                           size_t ids_len, uint64_t *ordinals, size_t ordinals_len,
+                                           int64_t *values, size_t values_len, uint8_t *kinds, size_t kinds_len,
+                                           uint8_t *columns, size_t columns_len,
+                                           signalfern_layered_page *reply);
+
+static inline signalfern_layered_page
+signalfern_look_up_layered_page_in(signalfern_column machine_column, const uint8_t *machine, size_t machine_len,
+                                   signalfern_column correction_column, const uint8_t *correction,
+                                   size_t correction_len, const uint32_t *ids, size_t ids_len,
+                                   uint64_t *ordinals, size_t ordinals_len, int64_t *values, size_t values_len,
+                                   uint8_t *kinds, size_t kinds_len, uint8_t *columns, size_t columns_len)
+{
+    signalfern_layered_page reply;
+    signalfern_look_up_layered_page_in_to(&machine_column, machine, machine_len, &correction_column, correction,
+                                          correction_len, ids, ids_len, ordinals, ordinals_len, values,
+                                          values_len, kinds, kinds_len, columns, columns_len, &reply);
+    return reply;
+}
+
+/*
+ * Reads the pairs of a machine column with a correction on top from an id on, in the order of ids, as many
+ * as all three lists have places; columns[i] is the column that pair i came from.
+ *
+ * Each place holds the smaller of the two columns' next pairs, as signalfern_next with a new cursor answers
+ * for the id after the place before it; the correction's where both have the id. It ends as
+ * signalfern_read_from does: where neither column has a pair left (ended), where a list is full, or where
+ * the next pair of either column would be refused (more): a pair that cannot be read is not passed over,
+ * though the other column's pair be smaller. The places after the pairs stay as they were.
+ *
+ * Refused only where the very first step is, and names its column: 14 by the correction; 7 to 11 and 15 by
+ * the correction; then 7 to 11 and 15 by the machine column. Nothing is written. Reading on from the last
+ * id + 1 gives each pair once, whatever the lists' lengths; on bytes that signalfern_check accepts, both
+ * pair lists as one, in which the correction's pair stands in the place of the machine column's.
+ */
+void signalfern_read_layered_from_to(const uint8_t *machine, size_t machine_len, const uint8_t *correction,
+                                     size_t correction_len, uint32_t id, uint32_t *ids, size_t ids_len,
+                                     int64_t *values, size_t values_len, uint8_t *columns, size_t columns_len,
+                                     signalfern_layered_readout *readout);
+
+static inline signalfern_layered_readout
+signalfern_read_layered_from(const uint8_t *machine, size_t machine_len, const uint8_t *correction,
+                             size_t correction_len, uint32_t id, uint32_t *ids, size_t ids_len, int64_t *values,
+                             size_t values_len, uint8_t *columns, size_t columns_len)
+{
+    signalfern_layered_readout readout;
+    signalfern_read_layered_from_to(machine, machine_len, correction, correction_len, id, ids, ids_len, values,
+                                    values_len, columns, columns_len, &readout);
+    return readout;
+}
+
+/*
+ * The same in two columns opened before, each with its own bytes. Any other columns are allowed too, as
+ * for signalfern_look_up_in: 10 and 11 in the place of 7 to 11.
+ */
+void signalfern_read_layered_from_in_to(const signalfern_column *machine_column, const uint8_t *machine,
+                                        size_t machine_len, const signalfern_column *correction_column,
+                                        const uint8_t *correction, size_t correction_len, uint32_t id,
+                                        uint32_t *ids, size_t ids_len, int64_t *values, size_t values_len,
+                                        uint8_t *columns, size_t columns_len,
+                                        signalfern_layered_readout *readout);
+
+static inline signalfern_layered_readout
+signalfern_read_layered_from_in(signalfern_column machine_column, const uint8_t *machine, size_t machine_len,
+                                signalfern_column correction_column, const uint8_t *correction,
+                                size_t correction_len, uint32_t id, uint32_t *ids, size_t ids_len,
+                                int64_t *values, size_t values_len, uint8_t *columns, size_t columns_len)
+{
+    signalfern_layered_readout readout;
+    signalfern_read_layered_from_in_to(&machine_column, machine, machine_len, &correction_column, correction,
+                                       correction_len, id, ids, ids_len, values, values_len, columns,
+                                       columns_len, &readout);
+    return readout;
 }
 
 /*

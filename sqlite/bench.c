@@ -113,6 +113,8 @@ static const struct {
      "SELECT count(*), sum(id) FROM %s WHERE value BETWEEN 100 AND 109"},
     {"corrected: join of 100,000 words", "corrected", "both",
      "SELECT count(*), sum(s.value) FROM words w JOIN %s s ON s.id = w.id"},
+    {"corrected: id IN 100,000 ids", "corrected", "both",
+     "SELECT count(*), sum(value) FROM %s WHERE id IN (SELECT id FROM words)"},
     {"corrected: sum of all values", "corrected", "both", "SELECT sum(value) FROM %s"},
 };
 

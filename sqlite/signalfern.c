@@ -333,89 +333,13 @@ static int is_unchanged(const mapped *c, char **error)
     return cannot("use", c->path, "it was changed in place after it was checked; open the database again", error);
 }
 
-/*
- * Two columns as one. Each score is what the proved look-up with a correction answers. These two functions have the
- * shape of a page and of a reading over two columns, and say by `columns` which one spoke.
- */
-
-enum { ROWS = 1024 };
-
-typedef struct {
-    uint64_t kind, number, column, count;
-} layered_readout;
-
+/* One id in two columns: which of them spoke, and the ordinal there. */
 static signalfern_layered layered_look_up(const scores *s, uint32_t id)
 {
     signalfern_layered answer;
     signalfern_look_up_layered_in_to(&s->machine.opened, s->machine.bytes, s->machine.len, &s->correction.opened,
                                      s->correction.bytes, s->correction.len, id, &answer);
     return answer;
-}
-
-static void layered_page(const scores *s, const uint32_t *ids, size_t len, uint64_t *ordinals, int64_t *values,
-                         uint8_t *kinds, uint8_t *columns)
-{
-    for (size_t i = 0; i < len; i++) {
-        signalfern_layered answer = layered_look_up(s, ids[i]);
-        ordinals[i] = answer.ordinal;
-        values[i] = answer.value;
-        kinds[i] = (uint8_t)answer.kind;
-        columns[i] = (uint8_t)answer.column;
-    }
-}
-
-/* The next ids of one column, for a reading of both. */
-typedef struct {
-    uint32_t ids[ROWS];
-    int64_t values[ROWS];
-    signalfern_readout readout;
-    size_t at;
-} listed;
-
-static void list_ids(const mapped *c, uint32_t id, size_t room, listed *l)
-{
-    signalfern_read_from_in_to(&c->opened, c->bytes, c->len, id, l->ids, room, l->values, room, &l->readout);
-    l->at = 0;
-}
-
-/* Whether the next id is not known. (Of a sound column the list is then full, and so is the reading.) */
-static int is_cut(const listed *l)
-{
-    return l->at == l->readout.count && l->readout.kind == SIGNALFERN_MORE;
-}
-
-static uint64_t next_listed(const listed *l)
-{
-    return l->at < l->readout.count ? l->ids[l->at] : UINT64_MAX;
-}
-
-static layered_readout layered_pairs(const scores *s, uint32_t id, uint32_t *ids, int64_t *values, uint8_t *columns,
-                                     size_t room)
-{
-    listed machine, correction;
-    list_ids(&s->machine, id, room, &machine);
-    list_ids(&s->correction, id, room, &correction);
-    if (correction.readout.kind > SIGNALFERN_ENDED)
-        return (layered_readout){correction.readout.kind, correction.readout.number, SIGNALFERN_CORRECTION, 0};
-    if (machine.readout.kind > SIGNALFERN_ENDED)
-        return (layered_readout){machine.readout.kind, machine.readout.number, SIGNALFERN_MACHINE, 0};
-    for (size_t i = 0; i < room; i++) {
-        uint64_t by_machine = next_listed(&machine), by_correction = next_listed(&correction);
-        uint64_t next = by_machine < by_correction ? by_machine : by_correction;
-        if (is_cut(&machine) || is_cut(&correction))
-            return (layered_readout){SIGNALFERN_MORE, 0, 0, i};
-        if (next == UINT64_MAX)
-            return (layered_readout){SIGNALFERN_ENDED, 0, 0, i};
-        signalfern_layered answer = layered_look_up(s, (uint32_t)next);
-        if (answer.kind != SIGNALFERN_FOUND) /* (in a file that was changed meanwhile) */
-            return (layered_readout){SIGNALFERN_BROKEN, 0, answer.column, 0};
-        ids[i] = (uint32_t)next;
-        values[i] = answer.value;
-        columns[i] = (uint8_t)answer.column;
-        machine.at += by_machine == next;
-        correction.at += by_correction == next;
-    }
-    return (layered_readout){SIGNALFERN_MORE, 0, 0, room};
 }
 
 /*
@@ -724,7 +648,8 @@ static int best_index(sqlite3_vtab *vtab, sqlite3_index_info *info)
  * A question under way. Rows come in blocks: of one look-up, of a part of a page, or of pairs read from an id on.
  */
 
-enum { FIRST_ROWS = 64 }; /* a block of pairs at first, and always where the range question finds its start */
+/* A block's rows, at most; of pairs the first number at first, and always where the range question finds its start. */
+enum { FIRST_ROWS = 64, ROWS = 1024 };
 
 typedef struct {
     sqlite3_vtab_cursor base;
@@ -810,7 +735,11 @@ static int look_up_one(cursor *c)
     c->has_ended = 1;
     c->row_ids[0] = (uint32_t)c->ids.low;
     if (is_corrected(c)) {
-        layered_page(c->asked, c->row_ids, 1, c->row_ordinals, c->row_values, c->row_kinds, c->row_columns);
+        signalfern_layered answer = layered_look_up(c->asked, c->row_ids[0]);
+        c->row_ordinals[0] = answer.ordinal;
+        c->row_values[0] = answer.value;
+        c->row_kinds[0] = (uint8_t)answer.kind;
+        c->row_columns[0] = (uint8_t)answer.column;
     } else {
         signalfern_answer answer;
         signalfern_look_up_in_to(&m->opened, m->bytes, m->len, c->row_ids[0], &answer);
@@ -823,13 +752,16 @@ static int look_up_one(cursor *c)
 
 static int look_up_page(cursor *c)
 {
-    const mapped *m = &c->asked->machine;
+    const mapped *m = &c->asked->machine, *top = &c->asked->correction;
     size_t left = c->page_len - c->asked_of_page, len = left < ROWS ? left : ROWS;
     memcpy(c->row_ids, c->page + c->asked_of_page, len * sizeof c->row_ids[0]);
     c->asked_of_page += len;
     c->has_ended = len == left;
     if (is_corrected(c)) {
-        layered_page(c->asked, c->row_ids, len, c->row_ordinals, c->row_values, c->row_kinds, c->row_columns);
+        signalfern_layered_page reply;
+        signalfern_look_up_layered_page_in_to(&m->opened, m->bytes, m->len, &top->opened, top->bytes, top->len,
+                                              c->row_ids, len, c->row_ordinals, len, c->row_values, len, c->row_kinds,
+                                              len, c->row_columns, len, &reply);
     } else {
         signalfern_page reply;
         signalfern_look_up_page_to(m->bytes, m->len, c->row_ids, len, c->row_ordinals, len, c->row_values, len,
@@ -861,15 +793,16 @@ static int find_value(cursor *c)
 /* Reads the pairs from the range's first id on. */
 static int read_block(cursor *c)
 {
-    const mapped *m = &c->asked->machine;
+    const mapped *m = &c->asked->machine, *top = &c->asked->correction;
     uint32_t id = (uint32_t)c->ids.low;
-    layered_readout all;
+    signalfern_layered_readout all;
     if (is_corrected(c)) {
-        all = layered_pairs(c->asked, id, c->row_ids, c->row_values, c->row_columns, c->room);
+        signalfern_read_layered_from_in_to(&m->opened, m->bytes, m->len, &top->opened, top->bytes, top->len, id,
+                                           c->row_ids, c->room, c->row_values, c->room, c->row_columns, c->room, &all);
     } else {
         signalfern_readout one;
         signalfern_read_from_in_to(&m->opened, m->bytes, m->len, id, c->row_ids, c->room, c->row_values, c->room, &one);
-        all = (layered_readout){one.kind, one.number, SIGNALFERN_MACHINE, one.count};
+        all = (signalfern_layered_readout){one.kind, one.number, SIGNALFERN_MACHINE, one.count};
     }
     if (all.kind > SIGNALFERN_ENDED)
         return refused(c, all.column, all.kind, all.number);

@@ -1,5 +1,5 @@
 """Questions to a column: the look-up, the next candidate, pairs from an id on, the pair with an ordinal, the first value in a range, a correction on
-top."""
+top, by single ids, pages and readings."""
 
 from basics import BACK, BROKEN, BUFFER, EDITION, ID, MAX_BLOCK, MAX_ID, RUN, Refused, at_low
 from blocks import data_bytes, ones, rank_bytes, shorts
@@ -264,6 +264,56 @@ def look_up_layered(machine, correction, x, columns=(None, None)):
         if found:
             return (name,) + found, under, over
     return None, under, over
+
+
+def look_up_layered_page(machine, correction, ids, rooms, columns=(None, None)):
+    """Ordinals, values, kinds and columns, and the sums of words."""
+    if min(rooms) < len(ids):
+        raise Refused(BUFFER, len(ids))
+    places, totals = [], (0, 0)
+    for x in ids:
+        try:
+            found, under, over = look_up_layered(machine, correction, x, columns)
+        except Refused as refusal:
+            places.append((0, 0, refusal.refusal, number_of(refusal.column)))
+            continue
+        totals = (totals[0] + under) % 2**64, (totals[1] + over) % 2**64
+        places.append((found[1], found[2], 0, number_of(found[0])) if found else (0, 0, 1, 0))
+    return [[place[i] for place in places] for i in range(4)], totals
+
+
+def number_of(name):
+    return ("machine", "correction").index(name)
+
+
+def layered_step(machine, correction, x, columns):
+    """The sooner of both columns' next candidates, the correction's at a tie: id, value and the column's number, or none. A refusal names its column,
+    the correction's first, and refuses the step even where the other's candidate is nearer."""
+    nearest = None
+    for name, data, column in (("correction", correction, columns[1]), ("machine", machine, columns[0])):
+        try:
+            found = next_candidate(data, 0, x, column)
+        except Refused as refusal:
+            refusal.column = name
+            raise refusal
+        if found and (nearest is None or found[0] < nearest[0]):
+            nearest = found[0], found[2], number_of(name)
+    return nearest
+
+
+def read_layered_from(machine, correction, x, room, columns=(None, None)):
+    """Pairs with their columns' numbers, at most so many, and whether no listed id is left."""
+    found = layered_step(machine, correction, x, columns)
+    pairs = []
+    while found and len(pairs) < room:
+        pairs.append(found)
+        if found[0] == MAX_ID:
+            return pairs, True
+        try:
+            found = layered_step(machine, correction, found[0] + 1, columns)
+        except Refused:
+            return pairs, False
+    return pairs, found is None
 
 
 def layered_values(machine, correction, x):

@@ -9,7 +9,8 @@ import hashlib
 import json
 import sys
 
-from asking import first_between, layered_values, look_up, look_up_layered, look_up_page, next_candidate, pair_at, read_from
+from asking import first_between, layered_values, look_up, look_up_layered, look_up_layered_page, look_up_page, next_candidate, pair_at, read_from
+from asking import read_layered_from
 from basics import BUFFER, Faulty, Refused
 from judging import judge
 from opening import check, open_column, opened, read
@@ -140,7 +141,7 @@ def answer_between(g, column=None):
 
 
 def answer_part(g):
-    column, start, length = layered_values(given_bytes(g["machine"]), given_bytes(g["correction"]), g["id"])
+    column, start, length = layered_values(*two(g), g["id"])
     return {"kind": "part", "column": column, "start": start, "length": length}
 
 
@@ -160,10 +161,38 @@ def answer_open(g):
     return dict(kind="opened", **{name: told(x) for name, x in zip(names, numbers)})
 
 
-def answer_layered_in(g):
-    machine, correction = given_bytes(g["machine"]), given_bytes(g["correction"])
-    columns = opened(g["machine_column"], machine), opened(g["correction_column"], correction)
-    return layered(lambda: look_up_layered(machine, correction, g["id"], columns))
+def two(g):
+    """The machine column and the correction."""
+    return given_bytes(g["machine"]), given_bytes(g["correction"])
+
+
+def two_opened(g):
+    machine, correction = two(g)
+    return opened(g["machine_column"], machine), opened(g["correction_column"], correction)
+
+
+def answer_layered_page(g, columns=(None, None)):
+    names, ids = ("ordinals", "values", "kinds", "columns"), given_list(g["ids"])
+    rooms = [g[name + "_room"] for name in names]
+    try:
+        written, (under, over) = look_up_layered_page(*two(g), ids, rooms, columns)
+    except Refused as refusal:
+        reply, written = refused(refusal), [[]] * 4
+    else:
+        reply = {"kind": "done", "number": len(ids), "machine_words": told(under), "correction_words": told(over)}
+    return dict(reply, **{name: list_told(lent(room, places)) for name, room, places in zip(names, rooms, written)})
+
+
+def answer_layered_reading(g, columns=(None, None)):
+    names = "ids", "values", "columns"
+    rooms = [g[name + "_room"] for name in names]
+    try:
+        pairs, ended = read_layered_from(*two(g), g["id"], min(rooms), columns)
+    except Refused as refusal:
+        reply, pairs = refused(refusal, column=refusal.column), []
+    else:
+        reply = {"kind": "ended" if ended else "more", "number": len(pairs)}
+    return dict(reply, **{name: list_told(lent(room, [pair[i] for pair in pairs])) for i, (name, room) in enumerate(zip(names, rooms))})
 
 
 def lists(g):
@@ -186,9 +215,7 @@ ANSWERS = {
     "look_up_page": answer_page,
     "next": answer_next,
     "first_between": answer_between,
-    "look_up_layered": lambda g: layered(
-        lambda: look_up_layered(given_bytes(g["machine"]), given_bytes(g["correction"]), g["id"])
-    ),
+    "look_up_layered": lambda g: layered(lambda: look_up_layered(*two(g), g["id"])),
     "layered_values": answer_part,
     "set_write": lambda g: writing(g["room"], lambda: set_write(given_list(g["ids"]), g["room"])),
     "set_check": lambda g: {
@@ -201,13 +228,17 @@ ANSWERS = {
     "look_up_in": lambda g: looked(look_up(None, g["id"], column_in(g))),
     "next_in": lambda g: answer_next(g, column_in(g)),
     "first_between_in": lambda g: answer_between(g, column_in(g)),
-    "look_up_layered_in": answer_layered_in,
+    "look_up_layered_in": lambda g: layered(lambda: look_up_layered(*two(g), g["id"], two_opened(g))),
     "read_from": answer_read_from,
     "pair_at": answer_pair_at,
     "first_between_from": answer_between,
     "read_from_in": lambda g: answer_read_from(g, column_in(g)),
     "pair_at_in": lambda g: answer_pair_at(g, column_in(g)),
     "first_between_from_in": lambda g: answer_between(g, column_in(g)),
+    "look_up_layered_page": answer_layered_page,
+    "read_layered_from": answer_layered_reading,
+    "look_up_layered_page_in": lambda g: answer_layered_page(g, two_opened(g)),
+    "read_layered_from_in": lambda g: answer_layered_reading(g, two_opened(g)),
 }
 
 

@@ -157,6 +157,15 @@ SLIPS = [
         '            refusal.column = name\n            raise\n',
         '            refusal.column = name\n            if name == "correction":\n                continue\n            raise\n',
     ),
+    ("a refused place without its column", "look_up_layered_page", "number_of(refusal.column)))", "0))"),
+    ("the words of a page in the other column", "look_up_layered_page", "(totals[0] + under)", "(totals[0] + over)"),
+    ("the machine column's pair where both have the id", "read_layered_from", "found[0] < nearest[0]):", "found[0] <= nearest[0]):"),
+    (
+        "a pair that cannot be read passed over",
+        "read_layered_from",
+        "            raise refusal\n",
+        "            if nearest:\n                return nearest\n            raise refusal\n",
+    ),
     ("a set's bitmap at 4096", "set_write", "    if len(places) <= 4096:", "    if len(places) < 4096:"),
     ("a set's 61440 ids by the missing ones", "set_write", "    if 65536 - len(places) < 4096:", "    if 65536 - len(places) <= 4096:"),
     (

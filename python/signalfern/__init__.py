@@ -13,12 +13,12 @@ from ._library import VERSION as __version__
 from ._pages import Page
 from .column import Column, Found, Pair
 from .errors import Error, Faulty, Refused
-from .layered import Layer, Layered, LayeredFound, LayeredPage, LayeredPair
+from .layered import Layer, Layered, LayeredFound, LayeredPage, LayeredPair, LayeredPairs
 from .sections import judge_section
 from .sets import Set, write_set
 from .writing import Edition, check, plan, write, write_file, write_planned
 
 __all__ = [
-    "Column", "Edition", "Error", "Faulty", "Found", "Layer", "Layered", "LayeredFound", "LayeredPage", "LayeredPair", "MAX_ID", "Page", "Pair", "Refused",
-    "Set", "__version__", "check", "digest", "errors", "judge_section", "plan", "write", "write_file", "write_planned", "write_set",
+    "Column", "Edition", "Error", "Faulty", "Found", "Layer", "Layered", "LayeredFound", "LayeredPage", "LayeredPair", "LayeredPairs", "MAX_ID", "Page", "Pair",
+    "Refused", "Set", "__version__", "check", "digest", "errors", "judge_section", "plan", "write", "write_file", "write_planned", "write_set",
 ]

@@ -171,27 +171,22 @@ def _taken_each(numbers: Any, kind: Kind) -> "array.array[int]":
     return array.array(kind.letter, made)
 
 
-def filled(kind: Kind, numbers: List[int]) -> Any:
-    """A new array of numbers that came from the library."""
-    return numpy.array(numbers, kind.dtype) if numpy is not None else array.array(kind.letter, numbers)
-
-
 def first_places(numbers: Any, count: int) -> Any:
     """The first places of an array that was made here; the array itself where these are all."""
     return numbers if len(numbers) == count else numbers[:count]
 
 
-def joined(chunks: List[Tuple[Any, Any]]) -> Tuple[Any, Any]:
-    """Pairs of an array of ids and one of values, one after the other, as one such pair."""
+def joined(chunks: List[Tuple[Any, ...]], *kinds: Kind) -> Tuple[Any, ...]:
+    """Chunks of some arrays each, one after the other, as one chunk of arrays of these kinds."""
     if len(chunks) == 1:
         return chunks[0]
-    ids, values = new(IDS, 0), new(VALUES, 0)
+    made = tuple(new(kind, 0) for kind in kinds)
     if numpy is not None:
-        return (numpy.concatenate([ids, *(chunk[0] for chunk in chunks)]), numpy.concatenate([values, *(chunk[1] for chunk in chunks)]))
-    for more_ids, more_values in chunks:
-        ids.extend(more_ids)
-        values.extend(more_values)
-    return ids, values
+        return tuple(numpy.concatenate(arrays) for arrays in zip(made, *chunks))
+    for chunk in chunks:
+        for numbers, more in zip(made, chunk):
+            numbers.extend(more)
+    return made
 
 
 def first_refusal(kinds: Any) -> Optional[int]:
@@ -206,38 +201,3 @@ def where_found(kinds: Any) -> Any:
     if numpy is not None:
         return numpy.logical_not(kinds)
     return array.array("B", kinds.tobytes().translate(b"\x01" + bytes(255)))
-
-
-def places_without(found: Any) -> Any:
-    """The places that are not true."""
-    if numpy is not None:
-        return numpy.flatnonzero(numpy.logical_not(found))
-    return [at for at, is_found in enumerate(found) if not is_found]
-
-
-def at_places(ids: Any, places: Any) -> Any:
-    """The ids at these places."""
-    if numpy is not None:
-        return numpy.asarray(ids)[places]
-    return array.array(IDS.letter, [ids[at] for at in places])
-
-
-def put(target: Any, places: Any, numbers: Any) -> None:
-    """Puts the numbers at these places."""
-    if numpy is not None:
-        target[places] = numbers
-    else:
-        for at, number in zip(places, numbers):
-            target[at] = number
-
-
-def merged(preferred: Tuple[Any, Any], other: Tuple[Any, Any]) -> Tuple[Any, Any]:
-    """Two lists of pairs as one, ascending; of an id that stands in both, the preferred pair."""
-    if numpy is not None:
-        ids, values = (numpy.concatenate(both) for both in zip(preferred, other))
-        ids, at = numpy.unique(ids, return_index=True)  # (of equal ones the first)
-        return ids, values[at]
-    pairs = dict(zip(*other))
-    pairs.update(zip(*preferred))
-    ordered = sorted(pairs)
-    return filled(IDS, ordered), filled(VALUES, [pairs[id] for id in ordered])

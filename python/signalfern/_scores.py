@@ -2,11 +2,11 @@
 
 from typing import Any, Iterator, Tuple
 
-from ._exact import MAX_ID, exact_id
+from ._exact import exact_id
 from ._library import FOUND
 
-# Some pairs, as an array of ids and one of values; and how many an iteration takes at a time.
-Chunk = Tuple[Any, Any]
+# Some pairs, as an array of ids, one of values and what else comes with them; and how many an iteration takes at a time.
+Chunk = Tuple[Any, ...]
 CHUNK = 4096
 
 
@@ -15,10 +15,6 @@ class Scores:
 
     def _answer(self, id: Any) -> Any:
         """The library's answer to one id, found or absent."""
-        raise NotImplementedError
-
-    def read_from(self, id: int, count: int) -> Tuple[Any, Any]:
-        """The next pairs at or above an id, at most so many, as two arrays."""
         raise NotImplementedError
 
     def _hold(self) -> Any:
@@ -47,14 +43,9 @@ class Scores:
         return self._pairs(exact_id(id), self._hold())
 
     def _pairs(self, target: int, held: Any) -> Iterator[Tuple[int, int]]:
-        for ids, values in self._chunks(held, target):
+        for ids, values, *_ in self._chunks(held, target):
             yield from zip(ids.tolist(), values.tolist())
 
     def _chunks(self, held: Any, target: int) -> Iterator[Chunk]:
-        """The pairs at or above an id, some at a time."""
-        while target <= MAX_ID:
-            ids, values = self.read_from(target, CHUNK)
-            if not len(ids):
-                break
-            yield ids, values
-            target = int(ids[-1]) + 1
+        """The pairs at or above an id, some at a time. A refusal comes after the pairs before it."""
+        raise NotImplementedError

@@ -184,12 +184,16 @@ class Column(Held, Scores):
         ([0, 2, 7], [150, 140, 135])
         """
         lent = self._bytes()
-        if not self._checked:  # (the count is then only what the header claims: nothing is made by it)
-            done(_library.check, lent, lent.bytes)
+        self._check(lent)
         count = len(self)
         ids, values = new(IDS, count), new(VALUES, count)
         done(_library.read, lent.address, lent.bytes, first(ids), count, first(values), count)
         return ids, values
+
+    def _check(self, lent: Lent) -> None:
+        """Checks a column that was not: its count is only what the header claims, and nothing is made by it."""
+        if not self._checked:
+            done(_library.check, lent, lent.bytes)
 
     def read_from(self, id: int, count: int) -> Tuple[Any, Any]:
         """The next pairs at or above an id, at most so many, as two arrays.
@@ -202,7 +206,8 @@ class Column(Held, Scores):
         lent, target, count = self._bytes(), exact_id(id), exact(count, "a count", 0, 2**63 - 1)
         # (of a column that was not checked the header's count is a claim: nothing is made by it)
         places = self._left(lent, target) if self._checked else CHUNK
-        return joined([*self._chunks(lent, target, count, places)])
+        ids, values = joined([*self._chunks(lent, target, count, places)], IDS, VALUES)
+        return ids, values
 
     def _left(self, lent: Lent, target: int) -> int:
         """How many pairs of a checked column are at or above an id."""

@@ -1,12 +1,13 @@
 """A correction column on top of a machine column."""
 
 from enum import IntEnum
-from typing import Any, NamedTuple, Optional, Tuple
+from typing import Any, Iterator, NamedTuple, Optional, Tuple
 
 from . import _library
-from ._exact import FLAGS, IDS, at_places, exact, exact_id, exact_value, filled, first_places, merged, places_without, put, taken
-from ._library import ABSENT, FOUND, LayeredAnswer, Part, refused
-from ._scores import CHUNK, Scores
+from ._exact import FLAGS, IDS, MAX_ID, ORDINALS, VALUES, exact, exact_id, exact_value, first_places, first_refusal, joined, new, taken, where_found
+from ._library import ABSENT, ENDED, FOUND, LayeredAnswer, LayeredPageReply, LayeredReadout, Part, refused
+from ._memory import Lent, first
+from ._scores import CHUNK, Chunk, Scores
 from .column import Column
 
 
@@ -45,6 +46,19 @@ class LayeredPage(NamedTuple):
     by: Any
 
 
+class LayeredPairs(NamedTuple):
+    """Pairs from an id on, place by place; ``by`` has the number of the column that each came from."""
+
+    ids: Any
+    values: Any
+    by: Any
+
+
+def _by(column: int) -> str:
+    """The words for the column that refused."""
+    return f"by the {Layer(column).name.lower()} column"
+
+
 class Layered(Scores):
     """Two columns, of which the correction answers for the ids that it holds.
 
@@ -74,7 +88,7 @@ class Layered(Scores):
     def __exit__(self, *_: Any) -> None:
         self.close()
 
-    def _hold(self) -> Any:
+    def _hold(self) -> Tuple[Lent, Lent]:
         return self.machine._bytes(), self.correction._bytes()
 
     def __len__(self) -> int:
@@ -94,7 +108,7 @@ class Layered(Scores):
             self.machine._opened, machine.address, machine.bytes, self.correction._opened, correction.address, correction.bytes, exact_id(id), a
         )
         if a.kind > ABSENT:
-            raise refused(a.kind, a.number, f"by the {Layer(a.column).name.lower()} column")
+            raise refused(a.kind, a.number, _by(a.column))
         return a
 
     def look_up(self, id: int) -> Optional[LayeredFound]:
@@ -103,21 +117,24 @@ class Layered(Scores):
         return LayeredFound(Layer(a.column), a.ordinal, a.value, a.machine_words, a.correction_words) if a.kind == FOUND else None
 
     def look_up_many(self, ids: Any) -> LayeredPage:
-        """A page of ids: one call for the correction, one for the machine column and the ids that are left.
+        """A page of ids in one call, in any order.
 
         >>> from signalfern import write
         >>> page = Layered(Column(write([0, 2, 7], [150, 140, 135])), Column(write([7], [200]))).look_up_many([7, 8, 0])
         >>> page.values.tolist(), page.ordinals.tolist(), [bool(found) for found in page.found], page.by.tolist()
         ([200, 0, 150], [0, 0, 0], [True, False, True], [1, 0, 0])
         """
-        asked = taken(ids, IDS)
-        values, ordinals, found = self.correction.look_up_many(asked)
-        by = filled(FLAGS, found.tolist())
-        places = places_without(found)
-        rest = self.machine.look_up_many(at_places(asked, places))
-        for target, numbers in ((values, rest.values), (ordinals, rest.ordinals), (found, rest.found)):
-            put(target, places, numbers)
-        return LayeredPage(values, ordinals, found, by)
+        asked, (machine, correction), reply = taken(ids, IDS), self._hold(), LayeredPageReply()
+        count = len(asked)
+        values, ordinals, kinds, by = new(VALUES, count), new(ORDINALS, count), new(FLAGS, count), new(FLAGS, count)
+        lists = [word for numbers in (asked, ordinals, values, kinds, by) for word in (first(numbers), count)]
+        _library.look_up_layered_page_in(
+            self.machine._opened, machine.address, machine.bytes, self.correction._opened, correction.address, correction.bytes, *lists, reply
+        )
+        bad = first_refusal(kinds)
+        if reply.refusal or bad is not None:
+            raise refused(reply.refusal) if bad is None else refused(int(kinds[bad]), 0, f"for number {bad} of the list, {_by(int(by[bad]))}")
+        return LayeredPage(values, ordinals, where_found(kinds), by)
 
     def next(self, id: int) -> Optional[LayeredPair]:
         """The first listed pair at or above an id, or None."""
@@ -138,14 +155,54 @@ class Layered(Scores):
 
     def read(self) -> Tuple[Any, Any]:
         """All ids and all values, as two arrays."""
-        return merged(self.correction.read(), self.machine.read())
+        machine, correction = self._hold()
+        self.correction._check(correction)
+        self.machine._check(machine)
+        return self.read_from(0, MAX_ID + 1)
 
     def read_from(self, id: int, count: int) -> Tuple[Any, Any]:
         """The next pairs at or above an id, at most so many, as two arrays."""
+        ids, values, _ = self.pairs_from(id, count)
+        return ids, values
+
+    def pairs_from(self, id: int, count: int) -> LayeredPairs:
+        """The next pairs at or above an id, at most so many, as three arrays: ids, values, and the numbers of their columns.
+
+        >>> from signalfern import write
+        >>> pairs = Layered(Column(write([0, 2, 7], [150, 140, 135])), Column(write([7, 9], [200, 210]))).pairs_from(1, 10)
+        >>> pairs.ids.tolist(), pairs.values.tolist(), pairs.by.tolist()
+        ([2, 7, 9], [140, 200, 210], [0, 1, 1])
+        """
+        held, target = self._hold(), exact_id(id)
         count = exact(count, "a count", 0, 2**63 - 1)
-        ids, values = merged(self.correction.read_from(id, count), self.machine.read_from(id, count))
-        kept = min(count, len(ids))
-        return first_places(ids, kept), first_places(values, kept)
+        chunks = [*self._chunks(held, target, count, self._left(held, target))]
+        return LayeredPairs(*joined(chunks, IDS, VALUES, FLAGS))
+
+    def _left(self, held: Tuple[Lent, Lent], target: int) -> int:
+        """How many pairs of two checked columns are at or above an id, at most; of others an iteration's number of places."""
+        columns = self.machine, self.correction
+        if not all(column._checked for column in columns):
+            return CHUNK
+        return sum(column._left(lent, target) for column, lent in zip(columns, held))
+
+    def _chunks(self, held: Tuple[Lent, Lent], target: int, count: int = MAX_ID + 1, places: int = CHUNK) -> Iterator[Chunk]:
+        """The next pairs at or above an id, at most so many, in arrays of at most so many places. A refusal comes after the pairs before it."""
+        machine, correction = held
+        while count and places and target <= MAX_ID:
+            places, readout = min(places, count), LayeredReadout()
+            chunk = new(IDS, places), new(VALUES, places), new(FLAGS, places)
+            lists = [word for numbers in chunk for word in (first(numbers), places)]
+            _library.read_layered_from_in(
+                self.machine._opened, machine.address, machine.bytes, self.correction._opened, correction.address, correction.bytes, target, *lists, readout
+            )
+            if readout.kind > ENDED:
+                raise refused(readout.kind, readout.number, _by(readout.column))
+            if readout.count:
+                yield tuple(first_places(numbers, readout.count) for numbers in chunk)
+                target = int(chunk[0][readout.count - 1]) + 1
+            if readout.kind == ENDED:
+                break
+            count -= readout.count
 
     def values_of(self, id: int) -> "Tuple[Layer, memoryview]":
         """Which column holds the id, and the bytes of its value section, as a view of them; no bytes where neither does."""

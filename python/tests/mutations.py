@@ -1,5 +1,5 @@
 """Takes the checks of numbers out of the package, one at a time, and sees that test_exact.py fails each time; then those of memory, by test_memory.py,
-those of the answers, by test_columns.py, and those of the module for pages, by test_pages.py.
+those of the answers, by test_columns.py and, with a correction on top, test_others.py, and those of the module for pages, by test_pages.py.
 
 (python3 python/tests/mutations.py [--without-numpy])
 """
@@ -77,7 +77,9 @@ NUMBERS = [
     (ANY, "layered", "correction.bytes, exact_id(id), part", "correction.bytes, id, part"),
     (ANY, "layered", "low, high = exact_value(low), exact_value(high)", "low, high = low, exact_value(high)"),
     (ANY, "layered", "low, high = exact_value(low), exact_value(high)", "low, high = exact_value(low), high"),
-    (ANY, "layered", 'count = exact(count, "a count", 0, 2**63 - 1)', "pass"),
+    (ANY, "layered", 'count = exact(count, "a count", 0, 2**63 - 1)', "count = max(0, count)"),
+    (ANY, "layered", "held, target = self._hold(), exact_id(id)", "held, target = self._hold(), id"),
+    (ANY, "layered", "taken(ids, IDS), self._hold()", "ids, self._hold()"),
     (ANY, "sets", "lent.bytes, exact_id(id), member", "lent.bytes, id, member"),
 ]
 MEMORY = [
@@ -104,9 +106,19 @@ ANSWERS = [
     (ANY, "column", "        if b.kind > ABSENT:\n", "        if False:\n"),
     (ANY, "column", "if p.kind == FOUND else None", "if True else None"),
     (ANY, "_exact", "        return chunks[0]\n", "        return chunks[0][::-1]\n"),
-    (WITH, "_exact", "*(chunk[0] for chunk in chunks)", "*(chunk[0] for chunk in chunks[:-1])"),
-    (WITH, "_exact", "*(chunk[1] for chunk in chunks)", "*(chunk[1] for chunk in chunks[:-1])"),
-    (WITHOUT, "_exact", "        values.extend(more_values)\n", "        values = more_values\n"),
+    (WITH, "_exact", "zip(made, *chunks))", "zip(made, *chunks[:-1]))"),
+    (WITHOUT, "_exact", "            numbers.extend(more)\n", "            numbers = more\n"),
+]
+LAYERS = [
+    (ANY, "layered", "raise refused(readout.kind, readout.number, _by(readout.column))", "break"),
+    (ANY, "layered", "refused(readout.kind, readout.number, _by(readout.column))", "refused(readout.kind, readout.number, _by(1 - readout.column))"),
+    (ANY, "layered", "_by(int(by[bad]))", "_by(1)"),
+    (ANY, "layered", "            if readout.kind == ENDED:\n", "            if readout.count < places:\n"),
+    (ANY, "layered", "            count -= readout.count\n", "            break\n"),
+    (ANY, "layered", "target = int(chunk[0][readout.count - 1]) + 1", "target = int(chunk[0][readout.count - 1]) + 3"),
+    (ANY, "layered", "while count and places and target <= MAX_ID:", "while places and target <= MAX_ID:"),
+    (ANY, "layered", "where_found(kinds), by)", "where_found(kinds), kinds)"),
+    (ANY, "layered", "        self.machine._check(machine)\n", ""),
 ]
 LOCKED = "done = answered(call, bytes, len, ids, narrow, lists);\n"
 PAGES = [
@@ -196,7 +208,7 @@ def main():
     other = WITHOUT if numpy is not None else WITH
     passed, failed = 0, 0
     columns = " ".join(f"tests.test_columns.{name}" for name in ("Unchecked", *(f"BesidePlain.test_{each}" for each in CALLS)))
-    all_edits = [("tests.test_exact", NUMBERS), ("tests.test_memory", MEMORY), (columns, ANSWERS)]
+    all_edits = [("tests.test_exact", NUMBERS), ("tests.test_memory", MEMORY), (columns, ANSWERS), ("tests.test_others.Corrections", LAYERS)]
     for tests, edits in all_edits + [("tests.test_pages", PAGES)] * can_build_pages():
         # (the first is no edit, and must pass)
         for number, (where, name, old, new) in enumerate([(ANY, "__init__", '"""Score', '"""Score'), *edits]):

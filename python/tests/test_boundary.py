@@ -20,6 +20,8 @@ STRUCTS = {
     "pair": _library.PairAt,
     "between": _library.Between,
     "layered": _library.LayeredAnswer,
+    "layered_page": _library.LayeredPageReply,
+    "layered_readout": _library.LayeredReadout,
     "part": _library.Part,
     "member": _library.Member,
     "judgement": _library.Judgement,
@@ -28,7 +30,7 @@ CALLS = {
     name: getattr(_library, {"open": "open_column"}.get(name, name))
     for name in (
         "write write_planned plan check read open look_up_in look_up_page next_in read_from_in pair_at_in first_between_from_in"
-        " look_up_layered_in layered_values set_write set_check set_find judge_section"
+        " look_up_layered_in look_up_layered_page_in read_layered_from_in layered_values set_write set_check set_find judge_section"
     ).split()
 }
 # (a cursor in a struct is its one number)

@@ -40,6 +40,8 @@ class Corrections(unittest.TestCase):
                 if first:
                     self.assertEqual((first.by, first.ordinal), both.look_up(first.id)[:2])
                 self.assertEqual(list(zip(*(each.tolist() for each in both.read_from(id, 7)))), after[:7])
+                spoke = [(*pair, int(pair[0] in correction)) for pair in after[:7]]
+                self.assertEqual(list(zip(*(each.tolist() for each in both.pairs_from(id, 7)))), spoke)
                 if id in listed:
                     self.assertEqual(both[id], listed[id])
                 else:
@@ -79,9 +81,44 @@ class Corrections(unittest.TestCase):
             self.assertIn(by, str(caught.exception))
             with self.assertRaises(errors.Broken):
                 both.look_up_many([7])
+            with self.assertRaisesRegex(errors.Broken, f"number 1 of the list, by the {by} column"):
+                both.look_up_many([65536, 7])
+            for read in (lambda: both.read_from(0, 9), lambda: both.pairs_from(0, 9), lambda: next(iter(both))):
+                with self.assertRaisesRegex(errors.Broken, f"by the {by} column"):
+                    read()
+            with self.assertRaises(errors.Damaged):
+                both.read()
         # an id that the correction holds does not ask the broken machine column
         both = Layered(damaged, whole)
         self.assertEqual((both[7], both.look_up_many([7]).values.tolist()), (1, [1]))
+        # a reading does not pass over what cannot be read, though the correction's pair be nearer
+        with self.assertRaisesRegex(errors.Broken, "by the machine column"):
+            both.read_from(7, 1)
+
+    def test_pairs_before_a_refusal(self):
+        # ids 0 and 9 with 2^63 - 8 and 2^63 - 1: of divisor 8, at byte 16, the second does not fit (document 01, 9)
+        great = bytearray(write([0, 9], [2**63 - 8, 2**63 - 1]))
+        great[16] = 8
+        both = Layered(Column(great, checked=False), Column(write([0, 4], [-1, -4])))
+        walk = iter(both)
+        self.assertEqual(next(walk), (0, -1))
+        for read in (lambda: next(walk), lambda: both.read_from(0, 9), lambda: both.pairs_from(1, 1)):
+            with self.assertRaisesRegex(errors.Broken, "by the machine column"):
+                read()
+        self.assertEqual(both.pairs_from(0, 1)[0].tolist(), [0])
+        self.assertEqual([numbers.tolist() for numbers in both.pairs_from(10, 3)], [[], [], []])
+
+    def test_more_than_a_chunk(self):
+        ids, above = range(0, 30000, 2), range(0, 30000, 3)
+        want = {**dict.fromkeys(ids, 1), **dict.fromkeys(above, -1)}
+        columns = write(ids, [1] * len(ids)), write(above, [-1] * len(above))
+        for checked in (True, False):
+            both = Layered(*(Column(column, checked=checked) for column in columns))
+            self.assertEqual(list(both), sorted(want.items()))
+            got = both.pairs_from(0, 2**63 - 1)
+            self.assertEqual([numbers.tolist() for numbers in got[:2]], [sorted(want), [want[id] for id in sorted(want)]])
+            self.assertEqual(got.by.tolist(), [int(id in above) for id in sorted(want)])
+            self.assertEqual([len(numbers) for numbers in both.pairs_from(7, 5000)], [5000] * 3)
 
 
 class Sets(unittest.TestCase):

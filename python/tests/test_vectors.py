@@ -8,7 +8,7 @@ import unittest
 from .common import ROOT, numpy
 
 import signalfern
-from signalfern import Column, Edition, Layered, Set, errors
+from signalfern import Column, Edition, Layer, Layered, Set, errors
 
 FOLDER = ROOT / "conformance"
 OUTSIDE = 2147352575
@@ -60,7 +60,7 @@ class Vectors(unittest.TestCase):
                 for name in ("ids", "values", "table"):
                     if name in given:
                         given[name] = self.recipes.given_list(given[name])
-                if call != "look_up_page" and max(given.get("ids", []), default=0) > OUTSIDE:
+                if "page" not in call and max(given.get("ids", []), default=0) > OUTSIDE:
                     continue
                 count += 1
                 self.asked = vector["name"]
@@ -200,10 +200,9 @@ class Vectors(unittest.TestCase):
 
     def test_layered(self):
         for given, reply in self.each("look_up_layered"):
-            try:
-                both = Layered(Column(given["machine"], checked=False), Column(given["correction"], checked=False))
-            except errors.Refused:
-                continue  # (a header is refused before the question)
+            both = self.layers(given)
+            if both is None:
+                continue
 
             def asked():
                 answer = both._answer(given["id"])
@@ -220,11 +219,52 @@ class Vectors(unittest.TestCase):
             else:
                 self.assertEqual(asked(), reply)
 
+    def layers(self, given):
+        """The two columns of a vector; none where a header is refused before the question."""
+        try:
+            return Layered(Column(given["machine"], checked=False), Column(given["correction"], checked=False))
+        except errors.Refused:
+            return None
+
+    def test_layered_page(self):
+        for given, reply in self.each("look_up_layered_page"):
+            both = self.layers(given)
+            if both is None or reply["kind"] == "refused":
+                continue  # (the package makes the lists, and they fit)
+            # (an id above the limit is refused before any call)
+            places = [at for at, id in enumerate(given["ids"]) if id <= OUTSIDE]
+            ids = [given["ids"][at] for at in places]
+            ordinals, values, kinds, columns = ([reply[name][at] for at in places] for name in ("ordinals", "values", "kinds", "columns"))
+            bad = next((at for at, kind in enumerate(kinds) if kind > 1), None)
+            if bad is None:
+                page = both.look_up_many(ids)
+                found = [1 - int(found) for found in page.found]
+                self.assertEqual((page.ordinals.tolist(), page.values.tolist(), found, page.by.tolist()), (ordinals, values, kinds, columns))
+                continue
+            with self.assertRaisesRegex(errors.Refused, f"number {bad} of the list, by the {Layer(columns[bad]).name.lower()}") as caught:
+                both.look_up_many(ids)
+            self.assertEqual(caught.exception.refusal, kinds[bad])
+
+    def test_layered_reading(self):
+        for given, reply in self.each("read_layered_from"):
+            both = self.layers(given)
+            if both is None:
+                continue
+            room = min(given[name] for name in ("ids_room", "values_room", "columns_room"))
+            if reply["kind"] != "refused" and (reply["kind"] == "ended" or reply["number"] == room):
+                want = tuple(reply[name][: reply["number"]] for name in ("ids", "values", "columns"))
+                self.assertEqual(tuple(numbers.tolist() for numbers in both.pairs_from(given["id"], room)), want)
+                continue
+            # (the pairs before a refusal are not handed out by a reading, and one pair is asked for where there is no place)
+            with self.assertRaisesRegex(errors.Refused, reply.get("column", "column")) as caught:
+                both.pairs_from(given["id"], room or 1)
+            if reply["kind"] == "refused":
+                self.assertEqual((caught.exception.refusal, caught.exception.number), (reply["refusal"], reply["number"]))
+
     def test_layered_values(self):
         for given, reply in self.each("layered_values"):
-            try:
-                both = Layered(Column(given["machine"], checked=False), Column(given["correction"], checked=False))
-            except errors.Refused:
+            both = self.layers(given)
+            if both is None:
                 continue
             by, view = both.values_of(given["id"])
             self.assertEqual((by.name.lower(), bytes(view)), (reply["column"], given[reply["column"]][reply["start"] : reply["start"] + reply["length"]]))

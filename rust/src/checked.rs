@@ -8,7 +8,7 @@ use crate::pairs::Pairs;
 use crate::{Column, Cursor, Readout, Refusal, MAX_ID};
 
 /// What all ids are below.
-const END: u32 = MAX_ID + 1;
+pub(crate) const END: u32 = MAX_ID + 1;
 
 /// A column that [`check`] accepted: a sorted list of pairs that can be asked and walked over.
 ///
@@ -157,7 +157,7 @@ impl<'a> Checked<'a> {
 
 /// What a checked column answers; none where the id is above the limit.
 #[inline]
-fn within<T>(answer: Result<T, Refusal>) -> Option<T> {
+pub(crate) fn within<T>(answer: Result<T, Refusal>) -> Option<T> {
     match answer {
         Ok(answer) => Some(answer),
         Err(Refusal::Id) => None,

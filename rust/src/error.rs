@@ -3,7 +3,7 @@
 use std::collections::TryReserveError;
 use std::{error, fmt, io};
 
-use crate::Refusal;
+use crate::{LayeredRefusal, Refusal};
 
 /// Why a call that makes its own buffers gave nothing: the library refused, or there was no memory.
 ///
@@ -23,6 +23,8 @@ use crate::Refusal;
 pub enum Error {
     /// The library refused.
     Refused(Refusal),
+    /// The library refused one of two columns.
+    RefusedBy(LayeredRefusal),
     /// The memory for what the call gives could not be had. Nothing was aborted, and what was had
     /// is given back.
     Memory(TryReserveError),
@@ -34,6 +36,7 @@ impl Error {
     pub const fn refusal(&self) -> Option<Refusal> {
         match self {
             Self::Refused(refusal) => Some(*refusal),
+            Self::RefusedBy(refused) => Some(refused.refusal),
             Self::Memory(_) => None,
         }
     }
@@ -43,6 +46,7 @@ impl fmt::Display for Error {
     fn fmt(&self, f: &mut fmt::Formatter<'_>) -> fmt::Result {
         match self {
             Self::Refused(refusal) => refusal.fmt(f),
+            Self::RefusedBy(refused) => refused.fmt(f),
             Self::Memory(_) => write!(f, "there is not enough memory for the result"),
         }
     }
@@ -52,7 +56,7 @@ impl error::Error for Error {
     fn source(&self) -> Option<&(dyn error::Error + 'static)> {
         match self {
             // The message is the refusal's own already.
-            Self::Refused(_) => None,
+            Self::Refused(_) | Self::RefusedBy(_) => None,
             Self::Memory(error) => Some(error),
         }
     }
@@ -61,6 +65,27 @@ impl error::Error for Error {
 impl From<Refusal> for Error {
     fn from(refusal: Refusal) -> Self {
         Self::Refused(refusal)
+    }
+}
+
+/// The column stays with the refusal.
+///
+/// ```
+/// use signalfern::{Column, Edition, Error, Layer, Layered, Refusal};
+///
+/// fn score(machine: &[u8], correction: &[u8], id: u32) -> Result<Option<i64>, Error> {
+///     let scores = Layered::new(Column::open(machine)?, Column::open(correction)?);
+///     Ok(scores.look_up(id)?.value())
+/// }
+/// let column = signalfern::write_to_vec(&[0, 2, 7], &[150, 140, 135], Edition::Plain, 9)?;
+/// let error = score(&column, &column, u32::MAX).unwrap_err();
+/// assert_eq!(error.refusal(), Some(Refusal::Id));
+/// assert!(matches!(error, Error::RefusedBy(refused) if refused.layer == Layer::Correction));
+/// # Ok::<(), Error>(())
+/// ```
+impl From<LayeredRefusal> for Error {
+    fn from(refused: LayeredRefusal) -> Self {
+        Self::RefusedBy(refused)
     }
 }
 
@@ -88,25 +113,35 @@ impl From<TryReserveError> for Error {
 /// ```
 impl From<Refusal> for io::Error {
     fn from(refusal: Refusal) -> Self {
-        let kind = match refusal {
-            Refusal::Short { .. }
-            | Refusal::Number { .. }
-            | Refusal::Edition
-            | Refusal::Header
-            | Refusal::Length
-            | Refusal::Damaged
-            | Refusal::Broken => io::ErrorKind::InvalidData,
-            Refusal::Lengths
-            | Refusal::Power
-            | Refusal::Order { .. }
-            | Refusal::Range { .. }
-            | Refusal::Room { .. }
-            | Refusal::Buffer { .. }
-            | Refusal::Id
-            | Refusal::Back
-            | Refusal::Plan => io::ErrorKind::InvalidInput,
-        };
-        Self::new(kind, refusal)
+        Self::new(kind_of(refusal), refusal)
+    }
+}
+
+/// Of the refusal's kind; it can be had back with its column.
+impl From<LayeredRefusal> for io::Error {
+    fn from(refused: LayeredRefusal) -> Self {
+        Self::new(kind_of(refused.refusal), refused)
+    }
+}
+
+const fn kind_of(refusal: Refusal) -> io::ErrorKind {
+    match refusal {
+        Refusal::Short { .. }
+        | Refusal::Number { .. }
+        | Refusal::Edition
+        | Refusal::Header
+        | Refusal::Length
+        | Refusal::Damaged
+        | Refusal::Broken => io::ErrorKind::InvalidData,
+        Refusal::Lengths
+        | Refusal::Power
+        | Refusal::Order { .. }
+        | Refusal::Range { .. }
+        | Refusal::Room { .. }
+        | Refusal::Buffer { .. }
+        | Refusal::Id
+        | Refusal::Back
+        | Refusal::Plan => io::ErrorKind::InvalidInput,
     }
 }
 
@@ -115,6 +150,7 @@ impl From<Error> for io::Error {
     fn from(error: Error) -> Self {
         match error {
             Error::Refused(refusal) => refusal.into(),
+            Error::RefusedBy(refused) => refused.into(),
             Error::Memory(_) => io::ErrorKind::OutOfMemory.into(),
         }
     }

@@ -108,6 +108,24 @@ pub(crate) struct Layered {
 
 #[repr(C)]
 #[derive(Clone, Copy)]
+pub(crate) struct LayeredPage {
+    pub refusal: u64,
+    pub number: u64,
+    pub machine_words: u64,
+    pub correction_words: u64,
+}
+
+#[repr(C)]
+#[derive(Clone, Copy)]
+pub(crate) struct LayeredReadout {
+    pub kind: u64,
+    pub number: u64,
+    pub column: u64,
+    pub count: u64,
+}
+
+#[repr(C)]
+#[derive(Clone, Copy)]
 pub(crate) struct Part {
     pub column: u64,
     pub start: u64,
@@ -295,6 +313,72 @@ extern "C" {
         correction_len: usize,
         id: u32,
         part: *mut Part,
+    );
+    fn signalfern_look_up_layered_page_to(
+        machine: *const u8,
+        machine_len: usize,
+        correction: *const u8,
+        correction_len: usize,
+        ids: *const u32,
+        ids_len: usize,
+        ordinals: *mut u64,
+        ordinals_len: usize,
+        values: *mut i64,
+        values_len: usize,
+        kinds: *mut u8,
+        kinds_len: usize,
+        columns: *mut u8,
+        columns_len: usize,
+        reply: *mut LayeredPage,
+    );
+    fn signalfern_look_up_layered_page_in_to(
+        machine_column: *const Column,
+        machine: *const u8,
+        machine_len: usize,
+        correction_column: *const Column,
+        correction: *const u8,
+        correction_len: usize,
+        ids: *const u32,
+        ids_len: usize,
+        ordinals: *mut u64,
+        ordinals_len: usize,
+        values: *mut i64,
+        values_len: usize,
+        kinds: *mut u8,
+        kinds_len: usize,
+        columns: *mut u8,
+        columns_len: usize,
+        reply: *mut LayeredPage,
+    );
+    fn signalfern_read_layered_from_to(
+        machine: *const u8,
+        machine_len: usize,
+        correction: *const u8,
+        correction_len: usize,
+        id: u32,
+        ids: *mut u32,
+        ids_len: usize,
+        values: *mut i64,
+        values_len: usize,
+        columns: *mut u8,
+        columns_len: usize,
+        readout: *mut LayeredReadout,
+    );
+    fn signalfern_read_layered_from_in_to(
+        machine_column: *const Column,
+        machine: *const u8,
+        machine_len: usize,
+        correction_column: *const Column,
+        correction: *const u8,
+        correction_len: usize,
+        id: u32,
+        ids: *mut u32,
+        ids_len: usize,
+        values: *mut i64,
+        values_len: usize,
+        columns: *mut u8,
+        columns_len: usize,
+        readout: *mut LayeredReadout,
     );
     fn signalfern_set_write_to(
         ids: *const u32,
@@ -609,6 +693,134 @@ pub(crate) fn layered_values(machine: &[u8], correction: &[u8], id: u32) -> Part
     unsafe {
         told(|answer| {
             signalfern_layered_values_to(m.as_ptr(), m.len(), c.as_ptr(), c.len(), id, answer)
+        })
+    }
+}
+
+pub(crate) fn look_up_layered_page(
+    m: &[u8],
+    c: &[u8],
+    ids: &[u32],
+    ordinals: &mut [u64],
+    values: &mut [i64],
+    kinds: &mut [u8],
+    columns: &mut [u8],
+) -> LayeredPage {
+    // SAFETY: seven slices with their own lengths; the four lists are borrowed for this call alone.
+    unsafe {
+        told(|answer| {
+            signalfern_look_up_layered_page_to(
+                m.as_ptr(),
+                m.len(),
+                c.as_ptr(),
+                c.len(),
+                ids.as_ptr(),
+                ids.len(),
+                ordinals.as_mut_ptr(),
+                ordinals.len(),
+                values.as_mut_ptr(),
+                values.len(),
+                kinds.as_mut_ptr(),
+                kinds.len(),
+                columns.as_mut_ptr(),
+                columns.len(),
+                answer,
+            );
+        })
+    }
+}
+
+pub(crate) fn look_up_layered_page_in(
+    (x, m): (&Column, &[u8]),
+    (y, c): (&Column, &[u8]),
+    ids: &[u32],
+    ordinals: &mut [u64],
+    values: &mut [i64],
+    kinds: &mut [u8],
+    columns: &mut [u8],
+) -> LayeredPage {
+    // SAFETY: seven slices with their own lengths; the four lists are borrowed for this call alone; the call takes any columns.
+    unsafe {
+        told(|answer| {
+            signalfern_look_up_layered_page_in_to(
+                x,
+                m.as_ptr(),
+                m.len(),
+                y,
+                c.as_ptr(),
+                c.len(),
+                ids.as_ptr(),
+                ids.len(),
+                ordinals.as_mut_ptr(),
+                ordinals.len(),
+                values.as_mut_ptr(),
+                values.len(),
+                kinds.as_mut_ptr(),
+                kinds.len(),
+                columns.as_mut_ptr(),
+                columns.len(),
+                answer,
+            );
+        })
+    }
+}
+
+pub(crate) fn read_layered_from(
+    m: &[u8],
+    c: &[u8],
+    id: u32,
+    ids: &mut [u32],
+    values: &mut [i64],
+    columns: &mut [u8],
+) -> LayeredReadout {
+    // SAFETY: five slices with their own lengths; the three lists are borrowed for this call alone.
+    unsafe {
+        told(|answer| {
+            signalfern_read_layered_from_to(
+                m.as_ptr(),
+                m.len(),
+                c.as_ptr(),
+                c.len(),
+                id,
+                ids.as_mut_ptr(),
+                ids.len(),
+                values.as_mut_ptr(),
+                values.len(),
+                columns.as_mut_ptr(),
+                columns.len(),
+                answer,
+            );
+        })
+    }
+}
+
+pub(crate) fn read_layered_from_in(
+    (x, m): (&Column, &[u8]),
+    (y, c): (&Column, &[u8]),
+    id: u32,
+    ids: &mut [u32],
+    values: &mut [i64],
+    columns: &mut [u8],
+) -> LayeredReadout {
+    // SAFETY: five slices with their own lengths; the three lists are borrowed for this call alone; the call takes any columns.
+    unsafe {
+        told(|answer| {
+            signalfern_read_layered_from_in_to(
+                x,
+                m.as_ptr(),
+                m.len(),
+                y,
+                c.as_ptr(),
+                c.len(),
+                id,
+                ids.as_mut_ptr(),
+                ids.len(),
+                values.as_mut_ptr(),
+                values.len(),
+                columns.as_mut_ptr(),
+                columns.len(),
+                answer,
+            );
         })
     }
 }

@@ -15,10 +15,33 @@ pub enum Layer {
 
 impl Layer {
     /// By the number that the library has for it.
-    const fn given(number: u64) -> Self {
+    pub(crate) const fn given(number: u64) -> Self {
         match number {
             0 => Self::Machine,
             _ => Self::Correction,
+        }
+    }
+
+    /// Its number, as a list of columns has it: 0 for the machine column, 1 for the correction.
+    ///
+    /// ```
+    /// use signalfern::Layer;
+    ///
+    /// assert_eq!(Layer::from_number(1), Some(Layer::Correction));
+    /// assert_eq!((Layer::Machine.number(), Layer::from_number(2)), (0, None));
+    /// ```
+    #[must_use]
+    pub const fn number(self) -> u8 {
+        self.of(0, 1)
+    }
+
+    /// The column with this number, if it is one.
+    #[must_use]
+    pub const fn from_number(number: u8) -> Option<Self> {
+        match number {
+            0 => Some(Self::Machine),
+            1 => Some(Self::Correction),
+            _ => None,
         }
     }
 
@@ -141,6 +164,16 @@ impl fmt::Display for LayeredRefusal {
 
 impl error::Error for LayeredRefusal {}
 
+impl LayeredRefusal {
+    /// By the numbers that the library has for them.
+    pub(crate) fn given(column: u64, refusal: u64, number: u64) -> Self {
+        Self {
+            layer: Layer::given(column),
+            refusal: Refusal::given(refusal, number),
+        }
+    }
+}
+
 #[inline]
 fn answer(given: ffi::Layered) -> Result<LayeredAnswer, LayeredRefusal> {
     match given.kind {
@@ -155,10 +188,7 @@ fn answer(given: ffi::Layered) -> Result<LayeredAnswer, LayeredRefusal> {
             machine_words: given.machine_words,
             correction_words: given.correction_words,
         }),
-        refusal => Err(LayeredRefusal {
-            layer: Layer::given(given.column),
-            refusal: Refusal::given(refusal, given.number),
-        }),
+        refusal => Err(LayeredRefusal::given(given.column, refusal, given.number)),
     }
 }
 
@@ -205,7 +235,9 @@ pub fn layered_values<'a>(machine: &'a [u8], correction: &'a [u8], id: u32) -> &
     &lent[part.start as usize..][..part.len as usize]
 }
 
-/// A machine column with a correction on top, both opened: the stenographer's scores are preferred.
+/// A machine column with a correction on top: the stenographer's scores are preferred.
+///
+/// Of two opened columns it answers and refuses as the library's calls do:
 ///
 /// ```
 /// use signalfern::{Column, Edition, Layer, Layered};
@@ -219,24 +251,49 @@ pub fn layered_values<'a>(machine: &'a [u8], correction: &'a [u8], id: u32) -> &
 /// let answer = scores.look_up(7)?;
 /// assert_eq!((answer.layer(), answer.value()), (Some(Layer::Machine), Some(135)));
 /// assert_eq!(scores.look_up(5)?.value(), None);
-/// # Ok::<(), Box<dyn std::error::Error>>(())
+/// # Ok::<(), signalfern::Error>(())
+/// ```
+///
+/// Of two [`Checked`](crate::Checked) columns it is a sorted list of pairs, and there is nothing left to refuse:
+///
+/// ```
+/// use signalfern::{Checked, Edition, Layer, Layered};
+///
+/// let machine = signalfern::write_to_vec(&[0, 2, 7], &[150, 140, 135], Edition::Plain, 9)?;
+/// let correction = signalfern::write_to_vec(&[2, 4], &[0, 255], Edition::Plain, 9)?;
+/// let scores = Layered::new(Checked::new(&machine)?, Checked::new(&correction)?);
+///
+/// assert_eq!((scores.get(2), scores.get(7), scores.get(5)), (Some(0), Some(135), None));
+/// assert_eq!(scores.get_page(&[7, 5, 2])?, [Some(135), None, Some(0)]);
+/// let pairs: Vec<(u32, i64, Layer)> = scores.iter_from(3).collect();
+/// assert_eq!(pairs, [(4, 255, Layer::Correction), (7, 135, Layer::Machine)]);
+/// # Ok::<(), signalfern::Error>(())
 /// ```
 #[derive(Clone, Copy, Debug)]
 #[must_use]
-pub struct Layered<'a> {
-    machine: Column<'a>,
-    correction: Column<'a>,
+pub struct Layered<C> {
+    pub(crate) machine: C,
+    pub(crate) correction: C,
 }
 
-impl<'a> Layered<'a> {
+impl<C> Layered<C> {
     /// Lays the correction on top of the machine column.
-    pub const fn new(machine: Column<'a>, correction: Column<'a>) -> Self {
+    pub const fn new(machine: C, correction: C) -> Self {
         Self {
             machine,
             correction,
         }
     }
+}
 
+impl<C: Copy> Layered<C> {
+    /// One of the two columns.
+    pub const fn column(&self, layer: Layer) -> C {
+        layer.of(self.machine, self.correction)
+    }
+}
+
+impl<'a> Layered<Column<'a>> {
     /// Looks one id up: the answer is that of [`look_up_layered`], sooner.
     ///
     /// # Errors
@@ -272,10 +329,5 @@ impl<'a> Layered<'a> {
     #[must_use]
     pub fn values_of(&self, id: u32) -> &'a [u8] {
         layered_values(self.machine.bytes(), self.correction.bytes(), id)
-    }
-
-    /// One of the two columns.
-    pub const fn column(&self, layer: Layer) -> Column<'a> {
-        layer.of(self.machine, self.correction)
     }
 }

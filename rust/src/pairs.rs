@@ -1,20 +1,65 @@
 //! The pairs of a checked column, one after the other, by the proved reading from an id on: some pairs with
-//! each call, into a small buffer. Nothing is decoded here.
+//! each call, into a buffer. Nothing is decoded here.
 
 use std::fmt;
 use std::iter::FusedIterator;
 
 use crate::checked::Checked;
 
-/// How many pairs the first call reads, and how many one reads at most. Each reads four times as many as the
-/// one before: whoever takes a few pairs waits for no more, and over many the cost of a call is spread.
-const FIRST: usize = 16;
-const ROOM: usize = 256;
+/// How many pairs the first call reads, and how many one reads at most. Each reads twice as many as the one
+/// before: whoever takes a few pairs waits for few, and over many the cost of a call is spread. (In a dense
+/// block without ranks a call counts from the block's start on.)
+const FIRST: usize = 4;
+const ROOM: usize = 4096;
+
+/// From so many pairs on it is quicker to go to an ordinal than to read on.
+const FAR: usize = 256;
+
+/// The pairs of one call. The first ones stand in the walk itself; lists for more are made when more are read.
+#[derive(Clone)]
+struct Buffer {
+    first_ids: [u32; FIRST],
+    first_values: [i64; FIRST],
+    ids: Vec<u32>,
+    values: Vec<i64>,
+}
+
+impl Buffer {
+    const fn new() -> Self {
+        Self {
+            first_ids: [0; FIRST],
+            first_values: [0; FIRST],
+            ids: Vec::new(),
+            values: Vec::new(),
+        }
+    }
+
+    /// Lists with room for so many pairs.
+    fn lists(&mut self, room: usize) -> (&mut [u32], &mut [i64]) {
+        if room <= FIRST {
+            self.ids.clear();
+            return (&mut self.first_ids[..room], &mut self.first_values[..room]);
+        }
+        self.ids.resize(room, 0);
+        self.values.resize(room, 0);
+        (&mut self.ids, &mut self.values)
+    }
+
+    /// The pair at a place of the lists that were asked for last.
+    #[inline]
+    fn pair(&self, place: usize) -> (u32, i64) {
+        match self.ids.get(place) {
+            Some(&id) => (id, self.values[place]),
+            None => (self.first_ids[place], self.first_values[place]),
+        }
+    }
+}
 
 /// The pairs of a [`Checked`] column in order, from [`Checked::iter`], [`Checked::iter_from`] or
 /// [`Checked::range`].
 ///
-/// Each is one that the proved [`read_from`](crate::read_from()) gave: the walk holds a small buffer of them.
+/// Each is one that the proved [`read_from`](crate::read_from()) gave: the walk holds a buffer of some of them,
+/// at most 4,096, which grows as it goes on.
 /// [`nth`](Iterator::nth), and with it `skip` and `step_by`, goes over many pairs by their ordinals, with the
 /// proved [`pair_at`](crate::pair_at()), and so does [`last`](Iterator::last). What is left is counted when it
 /// is asked for, by [`next`](crate::next()).
@@ -22,8 +67,7 @@ const ROOM: usize = 256;
 #[must_use]
 pub struct Pairs<'a> {
     checked: Checked<'a>,
-    ids: [u32; ROOM],
-    values: [i64; ROOM],
+    buffer: Buffer,
     /// The place of the next pair in the buffer, and how many pairs are there.
     taken: usize,
     held: usize,
@@ -39,8 +83,7 @@ impl<'a> Pairs<'a> {
     pub(crate) fn of(checked: Checked<'a>, from: u32, end: u32) -> Self {
         Self {
             checked,
-            ids: [0; ROOM],
-            values: [0; ROOM],
+            buffer: Buffer::new(),
             taken: 0,
             held: 0,
             room: FIRST,
@@ -55,7 +98,7 @@ impl<'a> Pairs<'a> {
         if self.from == self.end {
             return false;
         }
-        let (ids, values) = (&mut self.ids[..self.room], &mut self.values[..self.room]);
+        let (ids, values) = self.buffer.lists(self.room);
         let read = self.checked.read_from(self.from, ids, values);
         let last = ids[..read.count].last();
         let is_over = read.ended || last.is_some_and(|&last| last >= self.end - 1);
@@ -65,7 +108,7 @@ impl<'a> Pairs<'a> {
         };
         self.taken = 0;
         self.held = ids[..read.count].partition_point(|&id| id < self.end);
-        self.room = (4 * self.room).min(ROOM);
+        self.room = (2 * self.room).min(ROOM);
         self.held > 0
     }
 
@@ -89,7 +132,7 @@ impl Iterator for Pairs<'_> {
         if self.taken == self.held && !self.fill() {
             return None;
         }
-        let pair = (self.ids[self.taken], self.values[self.taken]);
+        let pair = self.buffer.pair(self.taken);
         self.taken += 1;
         Some(pair)
     }
@@ -103,15 +146,16 @@ impl Iterator for Pairs<'_> {
         self.len()
     }
 
-    /// Over many pairs by their ordinals, and over few by reading on.
+    /// Over many pairs by their ordinals, and over few by reading on. After many it reads few again.
     fn nth(&mut self, mut n: usize) -> Option<(u32, i64)> {
         while n >= self.buffered() {
             n -= self.buffered();
             self.taken = self.held;
-            if n >= ROOM {
+            if n >= FAR {
                 let pair = self.checked.nth(self.checked.ids_below(self.from) + n);
                 let pair = pair.filter(|pair| pair.0 < self.end);
                 self.from = pair.map_or(self.end, |pair| pair.0 + 1);
+                self.room = FIRST;
                 return pair;
             }
             if !self.fill() {

@@ -12,6 +12,10 @@ import sys
 HERE = pathlib.Path(__file__).resolve().parent
 SOURCE = (HERE.parent / "signalfern.c").read_text()
 
+# The two columns as a call takes them, and the other way round.
+UNDER = "&m->opened, m->bytes, m->len, &top->opened, top->bytes, top->len"
+OVER = "&top->opened, top->bytes, top->len, &m->opened, m->bytes, m->len"
+
 # What is changed into what, and the tests of which one must fail.
 SLIPS = [
     ("int is_before = op == SQLITE_INDEX_CONSTRAINT_LT && is_whole;", "int is_before = op == SQLITE_INDEX_CONSTRAINT_LT;", "sweep"),
@@ -28,8 +32,12 @@ SLIPS = [
     ("c->ordinal += c->count;", "", "sweep"),
     ("first.kind == SIGNALFERN_FOUND ? first.ordinal :", "first.kind == SIGNALFERN_FOUND ? 0 :", "sweep"),
     ("c->ordinal = between.ordinal;", "", "sweep"),
-    ("machine.at += by_machine == next;", "machine.at++;", "sweep"),
-    ("columns[i] = (uint8_t)answer.column;\n        machine.at", "columns[i] = 0;\n        machine.at", "sweep"),
+    (f"{UNDER}, id,", f"{OVER}, id,", "sweep"),
+    (f"{UNDER},\n", f"{OVER},\n", "sweep"),
+    ("c->room, c->row_columns, c->room, &all);", "c->room, c->row_kinds, c->room, &all);", "sweep"),
+    ("if (is_corrected(c)) {\n        signalfern_layered_page reply;", "if (0) {\n        signalfern_layered_page reply;", "sweep"),
+    ("c->row_columns[0] = (uint8_t)answer.column;", "", "sweep"),
+    ("c->row_columns[c->count++] = c->row_columns[i];", "c->count++;", "sweep"),
     ("return c->path == PAIRS && is_corrected(c) ? layered_look_up(c->asked, c->row_ids[c->at]).ordinal", "return 0 ? 0", "sweep"),
     ("!corrected && !(plan & ~USES_FILE) &&", "", "plans"),
     ("&& !info->aOrderBy[0].desc", "", "sweep"),

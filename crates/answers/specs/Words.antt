@@ -9,7 +9,8 @@ use Rattle.format.specs.Editions.{Edition, plain, numberOf, editions, editionIn
 use Rattle.format.specs.Opening.{Opened}
 use Rattle.format.specs.LookUp.{Look, found, absent}
 use Rattle.format.specs.Next.{Candidate, candidateAt, noCandidate, lastAfter}
-use Rattle.format.specs.Layered.{Layer, machine, correction, LayeredLook, foundIn, absentIn, refusedBy, Part, part}
+use Rattle.format.specs.Layered.{layerNumber, LayeredLook, foundIn, absentIn, refusedBy, Part, part}
+use Rattle.format.specs.LayeredReading.{LayeredCount, countTo, refusedCount}
 use Rattle.format.specs.Judge.{Verdict, accepted, faulty}
 use Rattle.format.specs.SetCalls.{Member, memberAt, noMember}
 
@@ -98,20 +99,26 @@ betweenWords (refused why w) = why ∷ w ∷ 0 ∷ []
 
 -- ---- two columns (document 02, [10])
 
--- 0 is the machine column, 1 the correction
-abbrev pub layerWord : Layer → ℕ
-layerWord machine = 0
-layerWord correction = 1
-
 -- kind 0 found, 1 absent, otherwise the refusal's number; the machine column's words before the correction's
 abbrev pub layeredWords : LayeredLook → List ℕ
-layeredWords (foundIn layer o v w k) = 0 ∷ 0 ∷ layerWord layer ∷ o ∷ twos v ∷ w ∷ k ∷ []
+layeredWords (foundIn layer o v w k) = 0 ∷ 0 ∷ layerNumber layer ∷ o ∷ twos v ∷ w ∷ k ∷ []
 layeredWords (absentIn w k) = 1 ∷ 0 ∷ 0 ∷ 0 ∷ 0 ∷ w ∷ k ∷ []
-layeredWords (refusedBy layer why x) = why ∷ x ∷ layerWord layer ∷ 0 ∷ 0 ∷ 0 ∷ 0 ∷ []
+layeredWords (refusedBy layer why x) = why ∷ x ∷ layerNumber layer ∷ 0 ∷ 0 ∷ 0 ∷ 0 ∷ []
 
 -- a part by its column, its place there and its length
 abbrev pub partWords : Part → List ℕ
-partWords (part layer a n) = layerWord layer ∷ a ∷ n ∷ []
+partWords (part layer a n) = layerNumber layer ∷ a ∷ n ∷ []
+
+-- a page of n ids: refusal 0, n and the sums of words, the machine column's before the correction's; otherwise the refusal's number and the number with it
+abbrev pub layeredPageWords : ℕ → Outcome (ℕ × ℕ) → List ℕ
+layeredPageWords n (done x) = 0 ∷ n ∷ x .0 ∷ x .1 ∷ []
+layeredPageWords n (refused why w) = why ∷ w ∷ 0 ∷ 0 ∷ []
+
+-- pairs of both columns from an id on: kind 0 more, 1 none left, otherwise the refusal's number; the number with it, and the column that refused; and how
+-- many pairs there are
+abbrev pub layeredReadoutWords : LayeredCount → List ℕ
+layeredReadoutWords (countTo n e) = cond e 1 0 ∷ 0 ∷ 0 ∷ n ∷ []
+layeredReadoutWords (refusedCount layer why w) = why ∷ w ∷ layerNumber layer ∷ 0 ∷ []
 
 -- ---- id sections and sets
 

@@ -16,6 +16,7 @@ use Rattle.format.specs.FirstBetween.{firstIn, firstBetween}
 use Rattle.format.specs.BetweenFrom.{firstBetweenFrom}
 use Rattle.format.specs.ReadFrom.{Readout, readFrom, readoutReply, readoutAfter, listReadFrom}
 use Rattle.format.specs.PairAt.{pairAt, listPair}
+use Rattle.format.specs.LayeredReading.{LayeredRead, pairId, pairValue, pairColumn, readLayered, layeredReadReply, layeredReadAfter}
 use Rattle.format.specs.SetBytes.{setBytes}
 use Rattle.format.specs.SetCalls.{setFind, asMember}
 use Rattle.laws.proofs.Cases.{true-or}
@@ -32,6 +33,7 @@ use Rattle.laws.proofs.BetweenFrom.{accepted-between-from, other-between-from}
 use Rattle.laws.proofs.ReadFrom.{accepted-read-from}
 use Rattle.laws.proofs.PairAt.{accepted-pair-at}
 use Rattle.laws.proofs.Layered as Ld
+use Rattle.laws.proofs.MergedReadings.{merged-read}
 use Rattle.laws.proofs.Demands.{opened-look-up}
 use Rattle.format.specs.Lists.{SetOf}
 use Rattle.set_format.proofs.Demands.{alike}
@@ -41,9 +43,11 @@ use Rattle.answers.specs.declared.Answer as An
 use Rattle.answers.specs.declared.Answer.{Answer}
 use Rattle.answers.specs.declared.Next.{Next}
 use Rattle.answers.specs.declared.Readout as Ro
-use Rattle.layered.specs.Answers.{layeredOf}
+use Rattle.layered.specs.Answers.{layeredOf, layeredReadoutOf}
+use Rattle.layered.specs.declared.LayeredReadout as Lr
 use Rattle.layered.specs.declared.Layered.{Layered}
 use Rattle.demands.specs.Terms.{Holds, pairsOf, WordsBound, FewProbes, Answers, LayeredAnswers, asked, PageAnswers, NextAnswers, ReadFromAnswers}
+use Rattle.demands.specs.Terms.{LayeredReadAnswers}
 use Rattle.demands.proofs.Lists.{as-read}
 
 -- ---- words and probes, on any bytes
@@ -203,6 +207,25 @@ module _ (bytes : List ℕ) (t : ℕ) (is is′ : List ℕ) (xs xs′ : List ℤ
         reply = kept ∙ ap readoutReply e;
         ids = ki ∙ ap (λ (o : Outcome Readout). readoutAfter (λ w. w .ids) o is) e;
         values = kx ∙ ap (λ (o : Outcome Readout). readoutAfter (λ w. w .values) o xs) e;
+      }
+
+module _ (m c : List ℕ) (t : ℕ) (is is′ : List ℕ) (xs xs′ : List ℤ) (cs cs′ : List ℕ) (r : Lr.LayeredReadout)
+    (kept : layeredReadoutOf r ≡ layeredReadReply (readLayered editions m c t (min (length cs) (min (length is) (length xs)))))
+    (ki : is′ ≡ layeredReadAfter pairId (readLayered editions m c t (min (length cs) (min (length is) (length xs)))) is)
+    (kx : xs′ ≡ layeredReadAfter pairValue (readLayered editions m c t (min (length cs) (min (length is) (length xs)))) xs)
+    (kc : cs′ ≡ layeredReadAfter pairColumn (readLayered editions m c t (min (length cs) (min (length is) (length xs)))) cs) where
+  pub layered-read-answers : (i j : ℕ) (x : Holds m i) (y : Holds c j) → LayeredReadAnswers x y t is is′ xs xs′ cs cs′ r
+  layered-read-answers i j x y =
+      let p = as-read m i x in
+      let q = as-read c j y in
+      let e =
+      merged-read editions (lawful-reader editions) m (p .opened) (p .pairs) (p .is-opened) (p .is-accepted) c (q .opened) (q .pairs) (q .is-opened)
+      (q .is-accepted) t (min (length cs) (min (length is) (length xs))) in
+      record {
+        reply = kept ∙ ap layeredReadReply e;
+        ids = ki ∙ ap (λ (o : LayeredRead). layeredReadAfter pairId o is) e;
+        values = kx ∙ ap (λ (o : LayeredRead). layeredReadAfter pairValue o xs) e;
+        columns = kc ∙ ap (λ (o : LayeredRead). layeredReadAfter pairColumn o cs) e;
       }
 
 pub pair-is : (bytes : List ℕ) (n : ℕ) (x : Holds bytes n) (i : ℕ) → pairAt editions bytes i ≡ done (listPair (pairsOf x) i)

@@ -3,6 +3,7 @@
 pub mod Replies
 pub mod Lists
 pub mod Answers
+pub mod LayeredPages
 pub mod Writing
 pub mod Tables
 pub mod Sequences

@@ -9,12 +9,16 @@ use Rattle.format.specs.Check.{readReply, idsAfter, valuesAfter}
 use Rattle.format.specs.LookUp.{Look}
 use Rattle.format.specs.Page.{placeKind, placeOrdinal, placeValue, pageReply, pageAfter}
 use Rattle.format.specs.ReadFrom.{Readout, readoutReply, readoutAfter}
+use Rattle.format.specs.Layered.{Layer}
+use Rattle.format.specs.LayeredReading.{LayeredRead, readTo, refusedRead, pairId, pairValue, pairColumn, refusedCount, layeredReadReply, layeredReadAfter}
 use Rattle.format.specs.Faults.{BrokenAt, EndsAt}
 use Rattle.answers.specs.Replies.{replyOf, readoutOf}
 use Rattle.answers.specs.declared.Refusal.{Refusal}
 use Rattle.answers.specs.declared.Reply as Rp
 use Rattle.answers.specs.declared.Reply.{Reply}
 use Rattle.answers.specs.declared.Readout as Ro
+use Rattle.layered.specs.Answers.{layeredReadoutOf}
+use Rattle.layered.specs.declared.LayeredReadout as Lr
 use Rattle.demands.specs.Terms.{Writes, HeaderTold, ComesBack}
 
 -- ---- done or refused
@@ -132,6 +136,29 @@ pub readout-told : {P : Type 0} (o : Outcome Readout) (why w : ℕ) → (o ≡ r
 unfolding readoutReply
 readout-told o why w h = (λ e. h .0 (readout-refused o why w e), λ p. ap readoutReply (h .1 p))
 
+-- ---- pairs of both columns from an id on
+
+layered-readout-refused : (o : LayeredRead) (layer : Layer) (why w : ℕ) → layeredReadReply o ≡ refusedCount layer why w → o ≡ refusedRead layer why w
+unfolding layeredReadReply
+layered-readout-refused (readTo r) layer why w e = absurd (let z : _≡_ {A = ℕ} 0 1 = cc in omega arith)
+layered-readout-refused (refusedRead l v x) layer why w e = cc
+
+module _ (o : LayeredRead) (is is′ : List ℕ) (xs xs′ : List ℤ) (cs cs′ : List ℕ) (r : Lr.LayeredReadout) (k : layeredReadoutOf r ≡ layeredReadReply o)
+    (ki : is′ ≡ layeredReadAfter pairId o is) (kx : xs′ ≡ layeredReadAfter pairValue o xs) (kc : cs′ ≡ layeredReadAfter pairColumn o cs) where
+  pub layered-readout-kept : (layer : Layer) (why w : ℕ) → layeredReadoutOf r ≡ refusedCount layer why w → (is′ ≡ is) × (xs′ ≡ xs) × (cs′ ≡ cs)
+  unfolding layeredReadAfter
+  layered-readout-kept layer why w e =
+      let f = layered-readout-refused o layer why w (sym k ∙ e) in (
+        ki ∙ ap (λ (o : LayeredRead). layeredReadAfter pairId o is) f,
+        kx ∙ ap (λ (o : LayeredRead). layeredReadAfter pairValue o xs) f,
+        kc ∙ ap (λ (o : LayeredRead). layeredReadAfter pairColumn o cs) f,
+      )
+
+pub layered-readout-told : {P : Type 0} (o : LayeredRead) (layer : Layer) (why w : ℕ) → (o ≡ refusedRead layer why w) ↔ P
+    → (layeredReadReply o ≡ refusedCount layer why w) ↔ P
+unfolding layeredReadReply
+layered-readout-told o layer why w h = (λ e. h .0 (layered-readout-refused o layer why w e), λ p. ap layeredReadReply (h .1 p))
+
 -- ---- where the header broke (document 02, [4])
 
 -- an answer is the definition's, so what holds of that holds of it
@@ -155,5 +182,5 @@ module _ {A : Type 0} (known : List Edition) (bytes : List ℕ) (So : Type 0) (r
 pub both-first : {X P Q R : Type 0} → X ↔ (P × Q × R) → X ↔ ((P × Q) × R)
 both-first h = (λ x. let d = h .0 x in ((d .0, d .1), d .2), λ p. h .1 (p .0 .0, p .0 .1, p .1))
 
-pub pair-first : {X R : Type 0} {P : ℕ → Type 0} → X ↔ ((k : ℕ) × P k × R) → X ↔ (((k : ℕ) × P k) × R)
+pub pair-first : {X R K : Type 0} {P : K → Type 0} → X ↔ ((k : K) × P k × R) → X ↔ (((k : K) × P k) × R)
 pair-first h = (λ x. let d = h .0 x in ((d .0, d .1), d .2), λ p. h .1 (p .0 .0, p .0 .1, p .1))

@@ -8,12 +8,13 @@ use Rattle.format.specs.Pairs.{Below}
 use Rattle.format.specs.Editions.{Edition, runs, numberOf, editions, editionIn, among}
 use Rattle.format.specs.Opening.{Opened, headFrom, headOk, lengthOk, openColumn}
 use Rattle.format.specs.LookUp.{Look, found, absent, halved, steps, lookUp, lookUpIn}
-use Rattle.format.specs.Next.{nextSteps, nextIn}
+use Rattle.format.specs.Next.{Candidate, nextSteps, newCursor, nextIn}
 use Rattle.format.specs.FirstBetween.{betweenSteps, firstBetween, firstBetweenIn}
 use Rattle.format.specs.BetweenFrom.{betweenStepsFrom, firstBetweenFrom, firstBetweenFromIn}
 use Rattle.format.specs.ReadFrom.{readSteps, readFromIn}
 use Rattle.format.specs.PairAt.{pairSteps, pairAtIn}
 use Rattle.format.specs.Layered.{LayeredLook, foundIn, absentIn, refusedBy, onTop, underneath, lookUpLayered, lookUpLayeredIn, layeredPart}
+use Rattle.format.specs.LayeredReading.{nextOfBoth, layeredSteps, bothThen, readTo, readLayeredIn}
 use Rattle.format.specs.SetCalls.{setCheck, setFind}
 use Rattle.laws.proofs.Cases.{true-or, false-true}
 use Rattle.laws.proofs.Tests.{stopped}
@@ -23,6 +24,8 @@ use Rattle.set_format.proofs.Demands.{accepts-sets, checked-finds, refused-alik
 use Rattle.laws.proofs.PassedOn.{number-exactly, short-exactly}
 use Rattle.laws.proofs.RefusalNumbers.{set-check-refusals}
 use Rattle.set_format.proofs.Faults.{check-number, check-short, check-damaged}
+use Rattle.laws.proofs.LayeredCalls.{start-in}
+use Rattle.demands.specs.Tables.{LayeredReadInSays}
 use Rattle.demands.specs.Tables.{InSays, LookInSays, NextInSays, ReadFromInSays, PairAtInSays, RangeInSays, BetweenInSays, BetweenFromInSays}
 use Rattle.demands.specs.Tables.{RangeSays, BetweenSays, BetweenFromSays, LayeredSays, PartSays, SetCheckSays, SetFindSays}
 
@@ -118,6 +121,18 @@ pub layered-in-says : (m : List ℕ) (x : Opened) (c : List ℕ) (y : Opened) (i
     → LayeredSays (lookUpIn c y id) (lookUpIn m x id) (lookUpLayeredIn m x c y id)
 unfolding lookUpLayeredIn
 layered-in-says m x c y id = on-top (lookUpIn c y id) (lookUpIn m x id)
+
+pub layered-read-in-says : (m : List ℕ) (x : Opened) (c : List ℕ) (y : Opened) (t room : ℕ)
+    → LayeredReadInSays m x c y t room (readLayeredIn m x c y t room)
+unfolding readLayeredIn bothThen andThen
+layered-read-in-says m x c y t room = rw (start-in c y t, start-in m x t) (go (nextIn c y newCursor t) (nextIn m x newCursor t) refl refl)
+  where
+    go : (a b : Outcome Candidate) → nextIn c y newCursor t ≡ a → nextIn m x newCursor t ≡ b
+        → LayeredReadInSays m x c y t room (bothThen (andThen a (λ first. done y)) (andThen b (λ first. done x))
+        (λ y x. readTo (layeredSteps (nextOfBoth m x c y) room t)))
+    go (refused why w) b ea eb = LayeredReadInSays.correction-fails why w ea refl
+    go (done a) (refused why w) ea eb = LayeredReadInSays.machine-fails a ea why w eb refl
+    go (done a) (done b) ea eb = LayeredReadInSays.in-turn a b ea eb refl
 
 pub part-says : (m c : List ℕ) (id : ℕ) → PartSays m c (lookUpLayered editions m c id) (layeredPart editions m c id)
 part-says m c id = go (lookUpLayered editions m c id) refl

@@ -8,12 +8,13 @@ use Rattle.format.specs.HeaderNumbers.{numberAt, numbersAt}
 use Rattle.format.specs.Editions.{Edition, runs, editions, editionIn}
 use Rattle.format.specs.Opening.{Opened, headFrom, headOk, lengthOk, openColumn}
 use Rattle.format.specs.LookUp.{Look, found, absent, halved, steps}
-use Rattle.format.specs.Next.{Candidate, nextSteps}
+use Rattle.format.specs.Next.{Candidate, nextSteps, newCursor, nextIn}
 use Rattle.format.specs.FirstBetween.{betweenSteps}
 use Rattle.format.specs.BetweenFrom.{betweenStepsFrom}
 use Rattle.format.specs.ReadFrom.{Readout, readSteps}
 use Rattle.format.specs.PairAt.{pairSteps}
 use Rattle.format.specs.Layered.{Layer, machine, correction, ofLayer, LayeredLook, foundIn, absentIn, refusedBy, Part, part, noPart}
+use Rattle.format.specs.LayeredReading.{nextOfBoth, layeredSteps, LayeredRead, readTo, refusedRead}
 use Rattle.format.specs.SetCalls.{Member, memberIn}
 use Rattle.format.specs.Lists.{SetOf}
 use Rattle.format.specs.SetFaults.{BrokenAt, EndsAt, Otherwise}
@@ -85,6 +86,14 @@ pub data PartSays (m c : List ℕ) (answer : LayeredLook) (p : Part) : Type 0 wh
       → PartSays m c answer p
   none-absent : (w k : ℕ) → answer ≡ absentIn w k → p ≡ noPart → PartSays m c answer p
   none-refused : (layer : Layer) (why w : ℕ) → answer ≡ refusedBy layer why w → p ≡ noPart → PartSays m c answer p
+
+-- pairs of both columns from an id on, in two that were opened before: by the two columns' own next candidates with a new cursor
+pub data LayeredReadInSays (m : List ℕ) (x : Opened) (c : List ℕ) (y : Opened) (t room : ℕ) (o : LayeredRead) : Type 0 where
+  correction-fails : (why w : ℕ) → nextIn c y newCursor t ≡ refused why w → o ≡ refusedRead correction why w → LayeredReadInSays m x c y t room o
+  machine-fails : (a : Candidate) → nextIn c y newCursor t ≡ done a → (why w : ℕ) → nextIn m x newCursor t ≡ refused why w → o ≡ refusedRead machine why w
+      → LayeredReadInSays m x c y t room o
+  in-turn : (a b : Candidate) → nextIn c y newCursor t ≡ done a → nextIn m x newCursor t ≡ done b → o ≡ readTo (layeredSteps (nextOfBoth m x c y) room t)
+      → LayeredReadInSays m x c y t room o
 
 -- ---- a set: 7 and 8 at the first number that is none, 13 for all else; membership tests its id first
 

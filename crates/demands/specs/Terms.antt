@@ -18,12 +18,15 @@ use Rattle.format.specs.Page.{placeKind, placeOrdinal, placeValue, pageWords, p
 use Rattle.format.specs.Check.{readReply, idsAfter, valuesAfter}
 use Rattle.format.specs.Next.{lastAfter, listNext}
 use Rattle.format.specs.ReadFrom.{Readout, readoutReply, readoutAfter, listReadFrom}
+use Rattle.format.specs.LayeredReading.{LayeredRead, pairId, pairValue, pairColumn, layeredReadReply, layeredReadAfter, listsRead}
 use Rattle.answers.specs.Replies.{replyOf, answerOf, candidateOf, readoutOf, Probed}
 use Rattle.answers.specs.declared.Reply.{Reply}
 use Rattle.answers.specs.declared.Answer as An
 use Rattle.answers.specs.declared.Answer.{Answer}
 use Rattle.answers.specs.declared.Next.{Next}
 use Rattle.answers.specs.declared.Readout as Ro
+use Rattle.layered.specs.Answers.{layeredReadoutOf}
+use Rattle.layered.specs.declared.LayeredReadout as Lr
 use Rattle.format.specs.Faults.{BrokenAt, EndsAt}
 use Rattle.format.specs.Says.{ReadSays, PageSays}
 
@@ -63,6 +66,15 @@ pub record ReadFromTold (Says : Outcome Readout → Type 0) (is is′ : List ℕ
   pub reply : readoutOf r ≡ readoutReply outcome
   pub ids-after : is′ ≡ readoutAfter (λ w. w .ids) outcome is
   pub values-after : xs′ ≡ readoutAfter (λ w. w .values) outcome xs
+
+-- and of those of two columns
+pub record LayeredReadTold (Says : LayeredRead → Type 0) (is is′ : List ℕ) (xs xs′ : List ℤ) (cs cs′ : List ℕ) (r : Lr.LayeredReadout) : Type 0 where
+  pub outcome : LayeredRead
+  pub says : Says outcome
+  pub reply : layeredReadoutOf r ≡ layeredReadReply outcome
+  pub ids-after : is′ ≡ layeredReadAfter pairId outcome is
+  pub values-after : xs′ ≡ layeredReadAfter pairValue outcome xs
+  pub columns-after : cs′ ≡ layeredReadAfter pairColumn outcome cs
 
 -- a call that reads these bytes' header where so is the case: what it says with a number is NUMBER with the place of the byte that decided it, and SHORT with
 -- the byte count, exactly where the header broke or ended (document 02, [4])
@@ -180,3 +192,11 @@ pub record ReadFromAnswers {bytes : List ℕ} {n : ℕ} (x : Holds bytes n) (t :
   pub reply : readoutOf r ≡ readoutReply (listReadFrom (pairsOf x) t (min (length is) (length xs)))
   pub ids : is′ ≡ readoutAfter (λ w. w .ids) (listReadFrom (pairsOf x) t (min (length is) (length xs))) is
   pub values : xs′ ≡ readoutAfter (λ w. w .values) (listReadFrom (pairsOf x) t (min (length is) (length xs))) xs
+
+-- pairs of both columns from an id on: those of the two lists as one, in which the correction's pair wins, with the column of each
+pub record LayeredReadAnswers {m c : List ℕ} {i j : ℕ} (x : Holds m i) (y : Holds c j) (t : ℕ) (is is′ : List ℕ) (xs xs′ : List ℤ) (cs cs′ : List ℕ)
+    (r : Lr.LayeredReadout) : Type 0 where
+  pub reply : layeredReadoutOf r ≡ layeredReadReply (listsRead (pairsOf x) (pairsOf y) t (min (length cs) (min (length is) (length xs))))
+  pub ids : is′ ≡ layeredReadAfter pairId (listsRead (pairsOf x) (pairsOf y) t (min (length cs) (min (length is) (length xs)))) is
+  pub values : xs′ ≡ layeredReadAfter pairValue (listsRead (pairsOf x) (pairsOf y) t (min (length cs) (min (length is) (length xs)))) xs
+  pub columns : cs′ ≡ layeredReadAfter pairColumn (listsRead (pairsOf x) (pairsOf y) t (min (length cs) (min (length is) (length xs)))) cs

@@ -10,6 +10,8 @@
 //   plans.rt     write_planned, plan                  asking.rt    look_up_page, next, new_cursor, first_between
 //   pairs.rt     read_from, pair_at, first_between_from, and those of an opened column
 //   layers.rt    look_up_layered, layered_values, layered_part
+//   layered_pages.rt  look_up_layered_page, look_up_layered_page_in
+//   layered_pairs.rt  read_layered_from, read_layered_from_in
 //   sets.rt      set_write, set_check, set_find       sections.rt  judge_section
 //
 // Demands 2 and 3 are below for document 01's calls, and in those files for document 02's.
@@ -35,6 +37,8 @@ use column::Opening;
 
 mod asking;
 mod fits;
+mod layered_pages;
+mod layered_pairs;
 mod layers;
 mod opened;
 mod pairs;

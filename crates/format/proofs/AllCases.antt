@@ -1,7 +1,7 @@
 -- Every computed case about the definitions, in one statement: document 01's starred table, both sides of each refusal's line, and of
 -- document 02 the next candidate ([1]), the divisor ([2]), a page ([3]), the places ([4]), the bytes of a fetch ([5]), edition 2 ([6]), the
 -- probes ([8]), the judge ([9]), a correction on top ([10]), edition 3 ([11]), edition 4 ([12]), the set on disk ([14]); pairs from an id on,
--- the pair with an ordinal, the question from an ordinal on.
+-- the pair with an ordinal, the question from an ordinal on; a page and a reading with a correction on top.
 -- (It is the first of these files to be checked, so that a slip in a definition shows as the case that it breaks.) Assumes nothing.
 use Rattle.format.proofs.Starred.{Starred, starred}
 use Rattle.format.proofs.Pins.{WriterCases, writer-cases, DivisorCases, divisor-cases, HeaderCases, header-cases}
@@ -19,6 +19,7 @@ use Rattle.format.proofs.PinsJudge.{JudgeCases, judge-cases, DenseJudge
 use Rattle.format.proofs.PinsRuns.{RunCases, run-cases, DirectoryCases, directory-cases, BetweenCases, between-cases}
 use Rattle.format.proofs.PinsReadFrom.{ReadFromCases, read-from-cases, PairAtCases, pair-at-cases, PairKindCases, pair-kind-cases}
 use Rattle.format.proofs.PinsReadFrom.{PairDamageCases, pair-damage-cases, BetweenFromCases, between-from-cases}
+use Rattle.format.proofs.PinsLayeredCalls.{LayeredPageCases, layered-page-cases, LayeredReadCases, layered-read-cases}
 
 pub record AllCases : Type 0 where
   pub starred-table : Starred
@@ -59,6 +60,8 @@ pub record AllCases : Type 0 where
   pub pair-kind-table : PairKindCases
   pub pair-damage-table : PairDamageCases
   pub between-from-table : BetweenFromCases
+  pub layered-page-table : LayeredPageCases
+  pub layered-read-table : LayeredReadCases
 
 pub all-cases : AllCases
 all-cases =
@@ -101,4 +104,6 @@ all-cases =
       pair-kind-table = pair-kind-cases;
       pair-damage-table = pair-damage-cases;
       between-from-table = between-from-cases;
+      layered-page-table = layered-page-cases;
+      layered-read-table = layered-read-cases;
     }

@@ -27,9 +27,15 @@ use Rattle.format.specs.Walk.{indexOf, seenOr, walkFrom, walk, listed, l
 use Rattle.format.specs.Pairs.{ascFrom}
 use Rattle.format.specs.FirstBetween.{scanFrom, runsFrom, betweenSteps, firstBetween, firstBetweenIn, firstIn}
 use Rattle.format.specs.Next.{decides, inTurn, nextSteps, next, nextIn, lastAfter, firstFrom, listNext, inSequence}
-use Rattle.format.specs.ReadFrom.{isNone, goesOn, pairsFrom, readSteps, readFrom, readFromIn, readoutReply, readoutAfter, listReadout, listReadFrom}
+use Rattle.format.specs.ReadFrom.{isNone, goesOn, pairsFrom, readSteps, readFrom, readFromIn, readoutReply, readoutAfter, listReadout, listReadFrom, idAfter}
 use Rattle.format.specs.PairAt.{lastIn, lastUpTo, bitAfter, denseWith, placeWith, pairFrom, pairSteps, pairAt, pairAtIn, listPair}
 use Rattle.format.specs.BetweenFrom.{fromValue, betweenStepsFrom, firstBetweenFrom, firstBetweenFromIn}
+use Rattle.format.specs.Layered.{underneath, onTop, lookUpLayered, lookUpLayeredIn, listsAnswer}
+use Rattle.format.specs.LayeredPage.{layeredKind, layeredOrdinal, layeredValue, layeredColumn, machineWords, correctionWords, pageBy, layeredPage}
+use Rattle.format.specs.LayeredPage.{layeredPageIn, sumOf, layeredReply, layeredAfter, listsPlace, listsPage, machineFormula, correctionFormula}
+use Rattle.format.specs.LayeredReading.{nextFrom, sooner, nextOfBoth, noneNext, stepsOn, layeredSteps, bothThen, answeringFrom, columnFrom, columnFromIn}
+use Rattle.format.specs.LayeredReading.{readLayered, readLayeredIn, layeredReadReply, layeredReadAfter, pairsOf, corrected, correctedBy, mergedFrom}
+use Rattle.format.specs.LayeredReading.{listRead, listsRead, pairWith, readingOf, callsFrom}
 use Rattle.format.specs.SetBytes.{setKind, begins, past, missing, setList, setData, setBlockAs, setBlock, setBytes, setWrite}
 use Rattle.format.specs.SetCalls.{listLengthOk, setDataBytes, setDataFits, setDataOk, setPlaces, dataFrom, lengthFrom, kindFrom, blockFrom, setRun}
 use Rattle.format.specs.SetCalls.{blocksFrom, setIds, setCheck, memberIn, setFind}
@@ -48,9 +54,12 @@ unfolding bind onesIn andThen need given needNone bytesOf countFrom digits same 
     writeAs writePlanned write writeReply writeOut openColumn headFrom headOk idPart valuePart valueIn valueOf check allValues pairsIn isDone isColumn
     accepted reading scan halveIn halve inSparse onesFrom strideLong strideRank denseAt placeAt probesAt entryAt answer fromEntry steps entered
     probesFrom stepProbes lookUp openedProbes lookUpProbes lookUpIn indexOf seenOr walkFrom walk listedPlaces probes decides inTurn nextSteps next
-    nextIn lastAfter firstFrom listNext inSequence isNone goesOn pairsFrom readSteps readFrom readFromIn readoutReply readoutAfter listReadout listReadFrom
+    nextIn lastAfter firstFrom listNext inSequence isNone goesOn pairsFrom readSteps readFrom readFromIn readoutReply readoutAfter listReadout listReadFrom idAfter
     lastIn lastUpTo bitAfter denseWith placeWith pairFrom pairSteps pairAt pairAtIn listPair fromValue betweenStepsFrom firstBetweenFrom
-    firstBetweenFromIn scanFrom runsFrom betweenSteps firstBetween firstBetweenIn firstIn insert insertAll tableOf codeIn
+    firstBetweenFromIn underneath onTop lookUpLayered lookUpLayeredIn listsAnswer layeredKind layeredOrdinal layeredValue layeredColumn machineWords
+    correctionWords pageBy layeredPage layeredPageIn sumOf layeredReply layeredAfter listsPlace listsPage machineFormula correctionFormula nextFrom sooner
+    nextOfBoth noneNext stepsOn layeredSteps bothThen answeringFrom columnFrom columnFromIn readLayered readLayeredIn layeredReadReply layeredReadAfter
+    pairsOf corrected correctedBy mergedFrom listRead listsRead pairWith readingOf callsFrom scanFrom runsFrom betweenSteps firstBetween firstBetweenIn firstIn insert insertAll tableOf codeIn
     tableFields tableEntry tableSection tableValue ascendsFrom ascends isIn allIn valueShare shorter tableOk tabled planOk planOf planned planEdition
     chosen plan ascFrom setKind begins past missing setList setData setBlockAs setBlock setBytes setWrite listLengthOk setDataBytes setDataFits
     setDataOk setPlaces dataFrom lengthFrom kindFrom blockFrom setRun blocksFrom setIds setCheck listed memberIn setFind placeKind placeOrdinal

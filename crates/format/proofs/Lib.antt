@@ -17,5 +17,6 @@ pub mod PinsLucene
 pub mod PinsJudge
 pub mod PinsRuns
 pub mod PinsReadFrom
+pub mod PinsLayeredCalls
 pub mod Only
 pub mod RankBytes

@@ -17,6 +17,7 @@ use Rattle.format.specs.FirstBetween.{between, skipped, scanFrom, runsFr
 use Rattle.format.specs.BetweenFrom.{fromValue, betweenStepsFrom}
 use Rattle.format.specs.ReadFrom.{readSteps}
 use Rattle.format.specs.PairAt.{pairFrom, pairSteps}
+use Rattle.format.specs.LayeredReading.{answeringFrom}
 
 -- ---- numbers of one kind
 
@@ -135,6 +136,11 @@ module _ (P : ℕ → Type 0) where
     pub of-read : (t room : ℕ) → Only P (readSteps bytes c t room)
     unfolding readSteps
     of-read t room = at-then _ _ (of-next t) (λ x. at-done _)
+
+    -- one of two columns, which the first candidate decides
+    pub of-answering : (t : ℕ) → Only P (answeringFrom bytes t c)
+    unfolding answeringFrom
+    of-answering t = at-then _ _ (of-next t) (λ x. at-done _)
 
     -- the pair with an ordinal
     of-pair-from : (o j : ℕ) (e : Entry) → Only P (pairFrom bytes c o j e)

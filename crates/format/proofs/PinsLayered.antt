@@ -5,7 +5,7 @@ use Rattle.format.specs.Refusals.{Outcome, done, andThen, SHORT, EDITION
 use Rattle.format.specs.Ids.{endBlock}
 use Rattle.format.specs.Editions.{editions}
 use Rattle.format.specs.Opening.{openColumn}
-use Rattle.format.specs.Layered.{machine, correction, LayeredLook, foundIn, absentIn, refusedBy, underneath, onTop, lookUpLayered, lookUpLayeredIn}
+use Rattle.format.specs.Layered.{machine, correction, LayeredLook, foundIn, absentIn, refusedBy, lookUpLayered, lookUpLayeredIn}
 use Rattle.format.specs.Layered.{part, sectionIn, partBy, layeredPart}
 use Rattle.format.proofs.Computing.{computing}
 use Rattle.format.proofs.PinsSteps.{blockHead, sparseBlock, made, fives, threeBy, denseBare, withPower}
@@ -65,7 +65,7 @@ pub record LayeredCases : Type 0 where
   pub same-twice-absent : lookUpLayered editions denseBare denseBare 4096 ≡ absentIn 1 1
 
 pub layered-cases : LayeredCases
-unfolding computing blockHead sparseBlock made fives threeBy denseBare three mended nothing brokenAt7 denseAbove underneath onTop lookUpLayered
+unfolding computing blockHead sparseBlock made fives threeBy denseBare three mended nothing brokenAt7 denseAbove
 layered-cases = search
 
 -- ---- from opened columns
@@ -86,7 +86,7 @@ pub record LayeredInCases : Type 0 where
   pub numbers-unseen : layeredIn three 6 mended 0 2 ≡ done (foundIn correction 0 (pos 100) 0 0)
 
 pub layered-in-cases : LayeredInCases
-unfolding computing blockHead sparseBlock made threeBy withPower three mended underneath onTop lookUpLayeredIn layeredIn
+unfolding computing blockHead sparseBlock made threeBy withPower three mended layeredIn
 layered-in-cases = search
 
 -- ---- the part
@@ -104,5 +104,5 @@ pub record LayeredPartCases : Type 0 where
   pub of-same-twice : layeredPart editions three three 2 ≡ part correction 26 1
 
 pub layered-part-cases : LayeredPartCases
-unfolding computing blockHead sparseBlock made fives threeBy three mended brokenAt7 underneath onTop lookUpLayered sectionIn partBy layeredPart
+unfolding computing blockHead sparseBlock made fives threeBy three mended brokenAt7 sectionIn partBy layeredPart
 layered-part-cases = search

@@ -20,6 +20,11 @@ abbrev pub ofLayer : {A : Type 0} → A → A → Layer → A
 ofLayer m c machine = m
 ofLayer m c correction = c
 
+-- the number that a list of columns and the C boundary have for each
+abbrev pub layerNumber : Layer → ℕ
+layerNumber machine = 0
+layerNumber correction = 1
+
 -- Found and refused name their column; the ordinal is the one in that column. Found and absent have the words of each column apart, the
 -- machine column's first, 0 for one not looked in.
 pub data LayeredLook : Type 0 where

@@ -43,3 +43,5 @@ pub mod Says
 pub mod Runs
 pub mod Drawn
 pub mod Stores
+pub mod LayeredPage
+pub mod LayeredReading

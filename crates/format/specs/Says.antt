@@ -14,9 +14,11 @@ use Rattle.format.specs.Table.{maxEntries}
 use Rattle.format.specs.Plan.{planOk, planned, planEdition, chosen}
 use Rattle.format.specs.Opening.{headOk, Opened, openColumn}
 use Rattle.format.specs.LookUp.{Look, halved, steps, lookUp}
-use Rattle.format.specs.Next.{Candidate, noCandidate, nextSteps}
+use Rattle.format.specs.Next.{Candidate, noCandidate, nextSteps, newCursor, next}
 use Rattle.format.specs.ReadFrom.{Readout, pairsFrom}
 use Rattle.format.specs.PairAt.{pairSteps}
+use Rattle.format.specs.Layered.{machine, correction, LayeredLook}
+use Rattle.format.specs.LayeredReading.{nextOfBoth, layeredSteps, LayeredRead, readTo, refusedRead}
 use Rattle.format.specs.SetBytes.{setBytes}
 use Rattle.format.specs.Lists.{ColumnOf}
 use Rattle.format.specs.Faults.{BrokenAt, EndsAt}
@@ -97,6 +99,12 @@ pub data PageSays (known : List Edition) (bytes ids : List ℕ) (os vs ks : ℕ)
   buffer : (os < length ids) ⊎ ((vs < length ids) ⊎ (ks < length ids)) → o ≡ refused BUFFER (length ids) → PageSays known bytes ids os vs ks o
   answered : length ids ≤ os → length ids ≤ vs → length ids ≤ ks → o ≡ done (map (lookUp known bytes) ids) → PageSays known bytes ids os vs ks o
 
+-- a page with a correction on top, where `look` is the single layered look-up: the same, with a list of columns
+pub data LayeredPageSays (look : ℕ → LayeredLook) (ids : List ℕ) (os vs ks cs : ℕ) (o : Outcome (List LayeredLook)) : Type 0 where
+  buffer : (os < length ids) ⊎ ((vs < length ids) ⊎ ((ks < length ids) ⊎ (cs < length ids))) → o ≡ refused BUFFER (length ids)
+      → LayeredPageSays look ids os vs ks cs o
+  answered : length ids ≤ os → length ids ≤ vs → length ids ≤ ks → length ids ≤ cs → o ≡ done (map look ids) → LayeredPageSays look ids os vs ks cs o
+
 -- ---- opening
 
 -- the bytes begin with nine header numbers, of which the first is a known edition's
@@ -156,3 +164,12 @@ pub data PairAtSays (known : List Edition) (bytes : List ℕ) (i : ℕ) (o : Out
   not-opened : (why w : ℕ) → openColumn known bytes ≡ refused why w → o ≡ refused why w → PairAtSays known bytes i o
   none-there : (c : Opened) → openColumn known bytes ≡ done c → c .head .count ≤ i → o ≡ done noCandidate → PairAtSays known bytes i o
   by-steps : (c : Opened) → openColumn known bytes ≡ done c → i < c .head .count → o ≡ pairSteps bytes c i → PairAtSays known bytes i o
+
+-- pairs of both columns from an id on: what `next` with a new cursor is refused with in the correction, then in the machine column; and else the pairs
+pub data LayeredReadSays (known : List Edition) (m c : List ℕ) (t room : ℕ) (o : LayeredRead) : Type 0 where
+  correction-fails : (why w : ℕ) → next known c newCursor t ≡ refused why w → o ≡ refusedRead correction why w → LayeredReadSays known m c t room o
+  machine-fails : (a : Candidate) → next known c newCursor t ≡ done a → (why w : ℕ) → next known m newCursor t ≡ refused why w
+      → o ≡ refusedRead machine why w → LayeredReadSays known m c t room o
+  in-turn : (a b : Candidate) → next known c newCursor t ≡ done a → next known m newCursor t ≡ done b
+      → (y x : Opened) → openColumn known c ≡ done y → openColumn known m ≡ done x → o ≡ readTo (layeredSteps (nextOfBoth m x c y) room t)
+      → LayeredReadSays known m c t room o

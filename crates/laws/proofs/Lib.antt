@@ -82,3 +82,14 @@ pub mod LastUpTo
 pub mod PlaceWith
 pub mod PairAt
 pub mod LongBits
+pub mod MergedPairs
+pub mod LayeredReadings
+pub mod NextKept
+pub mod BufferedPairs
+pub mod LayeredPages
+pub mod MergedReadings
+pub mod LayeredCalls
+pub mod MergedLooked
+pub mod LayeredInTwo
+pub mod LayeredPlaces
+pub mod LayeredSay

@@ -9,17 +9,20 @@ use Rattle.format.specs.Editions.{Edition, runs}
 use Rattle.format.specs.Opening.{Opened, openColumn}
 use Rattle.format.specs.Check.{check, reading}
 use Rattle.format.specs.LookUp.{Look, found, absent, lookUp}
-use Rattle.format.specs.Next.{next}
+use Rattle.format.specs.Next.{Candidate, newCursor, next}
 use Rattle.format.specs.FirstBetween.{firstBetween}
 use Rattle.format.specs.BetweenFrom.{firstBetweenFrom}
 use Rattle.format.specs.ReadFrom.{readFrom}
 use Rattle.format.specs.PairAt.{pairAt}
 use Rattle.format.specs.Layered.{machine, correction, refusedBy, onTop, underneath, lookUpLayered}
+use Rattle.format.specs.LayeredReading.{bothThen, refusedRead, columnFrom, readLayered}
 use Rattle.format.specs.Page.{placeKind}
-use Rattle.format.proofs.Only.{Only, only, at-done, at-need, at-then, of-accepted, of-steps, of-next, of-read, of-pair, of-between, of-between-from}
+use Rattle.format.proofs.Only.{Only, only, at-done, at-need, at-then, of-accepted, of-steps, of-next, of-read, of-answering, of-pair}
+use Rattle.format.proofs.Only.{of-between, of-between-from}
 use Rattle.laws.proofs.Tests.{needed, stopped}
 use Rattle.laws.proofs.HeaderFaults.{open-number, open-short}
 use Rattle.laws.proofs.Layered.{layered-says}
+use Rattle.laws.proofs.LayeredCalls.{start-done, done-start, layered-read-says}
 
 -- ---- what follows opening, and what comes before it, has other numbers
 
@@ -46,6 +49,10 @@ answered-within : (known : List Edition) (bytes : List ℕ) (id : ℕ) (x : Look
 unfolding lookUp
 answered-within known bytes id x e = leb-true id maxId (needed _ _ _ _ x e .0)
 
+next-within : (known : List Edition) (bytes : List ℕ) (t : ℕ) (a : Candidate) → next known bytes newCursor t ≡ done a → t ≤ maxId
+unfolding next
+next-within known bytes t a e = leb-true t maxId (needed _ _ _ _ a e .0)
+
 -- ---- the calls
 
 -- "the bytes are so" is exactly what each call says with this refusal and number; those that are told an id test it first
@@ -61,6 +68,10 @@ pub record Exactly (known : List Edition) (bytes : List ℕ) (why w : ℕ) (So :
   pub on-top : (m : List ℕ) (id : ℕ) → (lookUpLayered known m bytes id ≡ refusedBy correction why w) ↔ ((id ≤ maxId) × So)
   pub below : (c : List ℕ) (id : ℕ)
       → (lookUpLayered known bytes c id ≡ refusedBy machine why w) ↔ ((k : ℕ) × (lookUp known c id ≡ done (absent k)) × So)
+  -- pairs of both columns: as the correction; and as the machine column, wherever the correction's first candidate is no refusal
+  pub reading-on-top : (m : List ℕ) (t room : ℕ) → (readLayered known m bytes t room ≡ refusedRead correction why w) ↔ ((t ≤ maxId) × So)
+  pub reading-below : (c : List ℕ) (t room : ℕ)
+      → (readLayered known bytes c t room ≡ refusedRead machine why w) ↔ ((a : Candidate) × (next known c newCursor t ≡ done a) × So)
 
 module _ (known : List Edition) (bytes : List ℕ) (why w : ℕ) (l : why ≤ LENGTH) (So : Type 0) (o : (openColumn known bytes ≡ refused why w) ↔ So) where
   checks : (check known bytes ≡ refused why w) ↔ So
@@ -122,6 +133,32 @@ module _ (known : List Edition) (bytes : List ℕ) (why w : ℕ) (l : why ≤ LE
         rw (s .1, f) refl,
   )
 
+  columns : (t : ℕ) → (columnFrom known bytes t ≡ refused why w) ↔ ((t ≤ maxId) × So)
+  unfolding columnFrom need
+  columns t =
+      let a = opening-alone known bytes why w l _ (λ c. of-answering Later (lit< tt) bytes c t) in (
+        λ e. let x = test-before known bytes why w l _ ID 0 _ (lit< tt) e in (leb-true t maxId (x .0), o .0 (a .0 (x .1))),
+        λ s. rw (le-leb t maxId (s .0)) (a .1 (o .1 (s .1))),
+      )
+
+  reads-on-top : (m : List ℕ) (t room : ℕ) → (readLayered known m bytes t room ≡ refusedRead correction why w) ↔ ((t ≤ maxId) × So)
+  unfolding readLayered bothThen
+  reads-on-top m t room = (λ e. columns t .0 (layered-read-says known m bytes t room _ e), λ s. rw (columns t .1 s) refl)
+
+  reads-below : (c : List ℕ) (t room : ℕ)
+      → (readLayered known bytes c t room ≡ refusedRead machine why w) ↔ ((a : Candidate) × (next known c newCursor t ≡ done a) × So)
+  unfolding readLayered bothThen
+  reads-below c t room = (
+    λ e.
+        let s = layered-read-says known bytes c t room _ e in
+        let a = start-done known c t (s .0) (s .1) in
+        (a .0, a .1, columns t .0 (s .2) .1),
+    λ s.
+        let y = done-start known c t (s .0) (s .1) in
+        let f : columnFrom known bytes t ≡ refused why w = columns t .1 (next-within known c t (s .0) (s .1), s .2) in
+        rw (y .1, f) refl,
+  )
+
   exactly : Exactly known bytes why w So
   exactly =
       record {
@@ -134,6 +171,8 @@ module _ (known : List Edition) (bytes : List ℕ) (why w : ℕ) (l : why ≤ LE
         pairing = pairs;
         on-top = tops;
         below = belows;
+        reading-on-top = reads-on-top;
+        reading-below = reads-below;
       }
 
 -- 7 to 11: what opening says

@@ -16,17 +16,20 @@ use Rattle.format.specs.BetweenFrom.{firstBetweenFrom, firstBetweenFromIn}
 use Rattle.format.specs.ReadFrom.{readFrom, readFromIn}
 use Rattle.format.specs.PairAt.{pairAt, pairAtIn}
 use Rattle.format.specs.Page.{page}
-use Rattle.format.specs.Layered.{Layer, machine, correction, refusedBy, lookUpLayered, lookUpLayeredIn}
+use Rattle.format.specs.Layered.{Layer, machine, correction, LayeredLook, refusedBy, lookUpLayered, lookUpLayeredIn}
+use Rattle.format.specs.LayeredPage.{pageBy}
+use Rattle.format.specs.LayeredReading.{columnFrom, columnFromIn, refusedRead, readLayered, readLayeredIn}
 use Rattle.format.specs.Orders.{Order}
 use Rattle.format.specs.Judge.{judgeSection}
 use Rattle.format.specs.SetBytes.{setWrite}
 use Rattle.format.specs.SetCalls.{setCheck, setFind}
 use Rattle.format.proofs.Only.{Only, only, at-done, at-need, at-none, at-given, at-then, of-open, of-accepted, of-steps, of-next, of-read, of-pair}
-use Rattle.format.proofs.Only.{of-between, of-between-from, of-set}
+use Rattle.format.proofs.Only.{of-answering, of-between, of-between-from, of-set}
 use Rattle.laws.proofs.Cases.{true-or, false-true}
 use Rattle.laws.proofs.Tests.{both-true}
 use Rattle.laws.proofs.Plans.{chosen-takes}
 use Rattle.laws.proofs.Layered.{layered-says, layered-in-says}
+use Rattle.laws.proofs.LayeredCalls.{layered-read-says, layered-read-in-says}
 
 -- one of these numbers
 abbrev pub OneOf : List ℕ → ℕ → Type 0
@@ -176,6 +179,33 @@ module _ (m c : List ℕ) (id : ℕ) (why w : ℕ) where
   pub layered-in-refusals : (x y : Opened) (layer : Layer) → lookUpLayeredIn m x c y id ≡ refusedBy layer why w → OneOf lookUpInNumbers why
   layered-in-refusals x y correction e = look-up-in-refusals c y id why w (layered-in-says m x c y id _ e)
   layered-in-refusals x y machine e = look-up-in-refusals m x id why w (layered-in-says m x c y id _ e .2)
+
+-- a page, by any look-up
+pub layered-page-refusals : (look : ℕ → LayeredLook) (ids : List ℕ) (o v k l : ℕ) → Refusals (BUFFER ∷ []) (pageBy look ids o v k l)
+unfolding pageBy among
+layered-page-refusals look ids o v k l why w = only (OneOf (BUFFER ∷ [])) _ why w (at-need _ _ _ _ _ refl (at-done _ _))
+
+-- pairs from an id on, each column refused as a look-up is
+column-from-refusals : (known : List Edition) (bytes : List ℕ) (t : ℕ) → Refusals lookUpNumbers (columnFrom known bytes t)
+unfolding columnFrom among
+column-from-refusals known bytes t why w =
+    only (OneOf lookUpNumbers) _ why w
+    (at-need _ _ _ _ _ refl (at-then _ _ _ (of-open _ refl refl refl refl refl known bytes) (λ c. of-answering _ refl bytes c t)))
+
+column-from-in-refusals : (bytes : List ℕ) (c : Opened) (t : ℕ) → Refusals lookUpInNumbers (columnFromIn bytes c t)
+unfolding columnFromIn among
+column-from-in-refusals bytes c t why w =
+    only (OneOf lookUpInNumbers) _ why w
+    (at-need _ _ _ _ _ refl (at-need _ _ _ _ _ refl (at-need _ _ _ _ _ refl (of-answering _ refl bytes c t))))
+
+module _ (m c : List ℕ) (t room : ℕ) (why w : ℕ) where
+  pub layered-read-refusals : (known : List Edition) (layer : Layer) → readLayered known m c t room ≡ refusedRead layer why w → OneOf lookUpNumbers why
+  layered-read-refusals known correction e = column-from-refusals known c t why w (layered-read-says known m c t room _ e)
+  layered-read-refusals known machine e = column-from-refusals known m t why w (layered-read-says known m c t room _ e .2)
+
+  pub layered-read-in-refusals : (x y : Opened) (layer : Layer) → readLayeredIn m x c y t room ≡ refusedRead layer why w → OneOf lookUpInNumbers why
+  layered-read-in-refusals x y correction e = column-from-in-refusals c y t why w (layered-read-in-says m x c y t room _ e)
+  layered-read-in-refusals x y machine e = column-from-in-refusals m x t why w (layered-read-in-says m x c y t room _ e .2)
 
 -- ---- of an id section and of a set
 

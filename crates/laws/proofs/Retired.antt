@@ -23,7 +23,9 @@ use Rattle.format.specs.FirstBetween.{firstBetween, firstBetweenIn}
 use Rattle.format.specs.BetweenFrom.{firstBetweenFrom, firstBetweenFromIn}
 use Rattle.format.specs.ReadFrom.{readFrom, readFromIn}
 use Rattle.format.specs.PairAt.{pairAt, pairAtIn}
-use Rattle.format.specs.Layered.{Layer, refusedBy, lookUpLayered, lookUpLayeredIn}
+use Rattle.format.specs.Layered.{Layer, LayeredLook, foundIn, absentIn, refusedBy, lookUpLayered, lookUpLayeredIn}
+use Rattle.format.specs.LayeredPage.{layeredKind, layeredPage, layeredPageIn}
+use Rattle.format.specs.LayeredReading.{refusedRead, readLayered, readLayeredIn}
 use Rattle.format.specs.Orders.{Order}
 use Rattle.format.specs.Judge.{judgeSection}
 use Rattle.format.specs.SetBytes.{setWrite}
@@ -37,6 +39,7 @@ use Rattle.laws.proofs.RefusalNumbers.{within, unlisted, write-refusals
 use Rattle.laws.proofs.RefusalNumbers.{check-refusals, reading-refusals, look-up-refusals, next-refusals, page-refusals, between-refusals}
 use Rattle.laws.proofs.RefusalNumbers.{look-up-in-refusals, next-in-refusals, between-in-refusals, layered-refusals, layered-in-refusals}
 use Rattle.laws.proofs.RefusalNumbers.{read-from-refusals, pair-at-refusals, between-from-refusals, read-from-in-refusals, pair-at-in-refusals}
+use Rattle.laws.proofs.RefusalNumbers.{layered-page-refusals, layered-read-refusals, layered-read-in-refusals}
 use Rattle.laws.proofs.RefusalNumbers.{between-from-in-refusals, judge-refusals, set-check-refusals, set-find-refusals}
 
 -- ---- no block starts near the line
@@ -116,6 +119,12 @@ pub record ReadersNever (k : ℕ) : Type 0 where
   pub layering : (known : List Edition) (m c : List ℕ) (id : ℕ) (layer : Layer) (w : ℕ) → lookUpLayered known m c id ≡ refusedBy layer k w → ⊥
   pub layering-in : (m : List ℕ) (x : Opened) (c : List ℕ) (y : Opened) (id : ℕ) (layer : Layer) (w : ℕ)
       → lookUpLayeredIn m x c y id ≡ refusedBy layer k w → ⊥
+  pub layered-paging : (known : List Edition) (m c ids : List ℕ) (o v ks cs w : ℕ) → layeredPage known m c ids o v ks cs ≡ refused k w → ⊥
+  pub layered-paging-in : (m : List ℕ) (x : Opened) (c : List ℕ) (y : Opened) (ids : List ℕ) (o v ks cs w : ℕ)
+      → layeredPageIn m x c y ids o v ks cs ≡ refused k w → ⊥
+  pub layered-reading : (known : List Edition) (m c : List ℕ) (t room : ℕ) (layer : Layer) (w : ℕ) → readLayered known m c t room ≡ refusedRead layer k w → ⊥
+  pub layered-reading-in : (m : List ℕ) (x : Opened) (c : List ℕ) (y : Opened) (t room : ℕ) (layer : Layer) (w : ℕ)
+      → readLayeredIn m x c y t room ≡ refusedRead layer k w → ⊥
   pub judging : (o : Order) (p j : ℕ) (s : List ℕ) (w : ℕ) → judgeSection o p j s ≡ refused k w → ⊥
   pub set-checking : (bytes : List ℕ) (w : ℕ) → setCheck bytes ≡ refused k w → ⊥
   pub set-finding : (bytes : List ℕ) (id w : ℕ) → setFind bytes id ≡ refused k w → ⊥
@@ -137,7 +146,7 @@ writers-never k n =
     }
 
 readers-never : (k : ℕ) → among readers k ≡ false → ReadersNever k
-unfolding within among
+unfolding within among layeredPage layeredPageIn
 readers-never k n =
     record {
       opening = λ known bytes w e. unlisted openNumbers readers k refl n (open-refusals known bytes k w e);
@@ -158,6 +167,10 @@ readers-never k n =
       paging = λ known bytes ids o v ks w e. unlisted (BUFFER ∷ []) readers k refl n (page-refusals known bytes ids o v ks k w e);
       layering = λ known m c id layer w e. unlisted lookUpNumbers readers k refl n (layered-refusals m c id k w known layer e);
       layering-in = λ m x c y id layer w e. unlisted lookUpInNumbers readers k refl n (layered-in-refusals m c id k w x y layer e);
+      layered-paging = λ known m c ids o v ks cs w e. unlisted (BUFFER ∷ []) readers k refl n (layered-page-refusals _ ids o v ks cs k w e);
+      layered-paging-in = λ m x c y ids o v ks cs w e. unlisted (BUFFER ∷ []) readers k refl n (layered-page-refusals _ ids o v ks cs k w e);
+      layered-reading = λ known m c t room layer w e. unlisted lookUpNumbers readers k refl n (layered-read-refusals m c t room k w known layer e);
+      layered-reading-in = λ m x c y t room layer w e. unlisted lookUpInNumbers readers k refl n (layered-read-in-refusals m c t room k w x y layer e);
       judging = λ o p j s w e. unlisted (HEADER ∷ []) readers k refl n (judge-refusals o p j s k w e);
       set-checking = λ bytes w e. unlisted setCheckNumbers readers k refl n (set-check-refusals bytes k w e);
       set-finding = λ bytes id w e. unlisted setFindNumbers readers k refl n (set-find-refusals bytes id k w e);
@@ -181,6 +194,15 @@ not-kind-5 (refused why w) h e = h w (ap {B = Outcome Look} (λ (m : ℕ). refus
 
 pub kind-never-5 : (known : List Edition) (bytes : List ℕ) (id : ℕ) → placeKind (lookUp known bytes id) ≡ 5 → ⊥
 kind-never-5 known bytes id = not-kind-5 (lookUp known bytes id) (readers-never-5 .looking known bytes id)
+
+not-layered-kind-5 : (x : LayeredLook) → ((layer : Layer) (w : ℕ) → x ≡ refusedBy layer 5 w → ⊥) → layeredKind x ≡ 5 → ⊥
+unfolding layeredKind
+not-layered-kind-5 (foundIn layer o v w j) h e = omega arith
+not-layered-kind-5 (absentIn w j) h e = omega arith
+not-layered-kind-5 (refusedBy layer why w) h e = h layer w (ap {B = LayeredLook} (λ (m : ℕ). refusedBy layer m w) e)
+
+pub layered-kind-never-5 : (known : List Edition) (m c : List ℕ) (id : ℕ) → layeredKind (lookUpLayered known m c id) ≡ 5 → ⊥
+layered-kind-never-5 known m c id = not-layered-kind-5 (lookUpLayered known m c id) (readers-never-5 .layering known m c id)
 
 -- 1 is the writers' alone
 pub readers-never-1 : ReadersNever LENGTHS

@@ -36,6 +36,22 @@ pub enum Layered {
     Refused(Layer, Refusal),
 }
 
+// The sums of words of a page, each column's apart; or its refusal.
+pub enum LayeredReply {
+    Done {
+        machine_words: u64,
+        correction_words: u64,
+    },
+    Refused(Refusal),
+}
+
+// How many pairs of both columns were read, and whether one is left; or the refusal of the first step, by its column.
+pub enum LayeredReadout {
+    More(u64),
+    Ended(u64),
+    Refused(Layer, Refusal),
+}
+
 // ---- one column's answer
 
 // Looks one id up: 14, then 7 to 11, then 15. It answers as `lookup::look_up`, but opens the column as every other call does: the header read

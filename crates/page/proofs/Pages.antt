@@ -1,21 +1,26 @@
--- A page by its answers: the tests before them, one place after the other, and what is left at the end. Assumes nothing.
-use Rattle.format.specs.Kit.{_≡_, refl, sym, ap, _∙_, List, [], _∷_, map, ℕ, _+_, _%_, _^_, _≤_, _<_, zero-add, add-one, arith, ℤ}
-use Rattle.format.specs.Kit.{length, drop, getD, set, length-set, drop-cons, drop-of-length-le}
+-- A page by its answers: the tests before them, one place or one part after the other, and what is left at the end. Assumes nothing.
+use Rattle.format.specs.Kit.{_≡_, refl, sym, ap, ap₂, _∙_, subst, List, [], _∷_, _++_, map, ℕ, zero, suc, _+_, _-_, _%_, _^_, _≤_, _<_, arith, ℤ, pos}
+use Rattle.format.specs.Kit.{length, drop, getD, getD-drop, ext-getD, sets, length-map, length-append, length-drop, List·getD-append, List·getD-map}
+use Rattle.format.specs.Kit.{getD-append-add}
 use Rattle.format.specs.Refusals.{Outcome, done, refused, BUFFER}
 use Rattle.format.specs.Editions.{editions}
 use Rattle.format.specs.LookUp.{Look, lookUp}
-use Rattle.format.specs.Page.{placeKind, placeOrdinal, placeValue, page, pageWords, pageReply, pageAfter}
+use Rattle.format.specs.Page.{placeKind, placeOrdinal, placeValue, placeWords, page, pageWords, pageReply, pageAfter}
 use Rattle.answers.specs.Replies.{refusalNumber}
 use Rattle.answers.specs.declared.Reply as Rp
 use Rattle.answers.specs.declared.Refusal as Re
-use Rattle.format.specs.Stores.{Fill}
-use Rattle.laws.proofs.Stores.{begun, part-more, filled}
+use Rattle.laws.proofs.Cases.{below-or, equal-or}
 use Rattle.laws.proofs.Paged.{enough, stored}
+use Rattle.laws.proofs.Stores.{sets-front}
 use Rattle.page.specs.Placed.{Holds, Stored, Room, Paged, Leaves}
+use Rattle.page.specs.Parts.{Lists, placeIn, Kept, total, answerOf, wordsAt, answeredAt, Filled}
 use Rattle.page.specs.declared.Held.{Held}
+use Rattle.page.proofs.Parts.{total-join, other, here, keeps, kept-both, holds-so}
 
-abbrev pub answers : List ℕ → List ℕ → List (Outcome Look)
-answers bytes ids = map (lookUp editions bytes) ids
+getD-of-map : {A B : Type 0} (g : B → A) (xs : List B) (i : ℕ) (b : B) (d : A) → i < length xs → getD (map g xs) i d ≡ g (getD xs i b)
+getD-of-map g [] i b d h = absurd (omega arith)
+getD-of-map g (x ∷ xs) zero b d h = refl
+getD-of-map g (x ∷ xs) (suc i) b d h = getD-of-map g xs i b d (omega arith)
 
 -- a refusal number fits in a byte
 pub number-small : (why : Re.Refusal) → refusalNumber why < 256
@@ -36,73 +41,137 @@ number-small Re.Refusal.Broken = omega arith
 number-small Re.Refusal.Back = omega arith
 number-small Re.Refusal.Plan = omega arith
 
--- ---- one place after the other
+-- ---- one place or one part after the other
 
--- before id i: the lists and the words at the start, and now
-pub record Going (bytes ids : List ℕ) (i : ℕ) (os₀ os : List ℕ) (vs₀ vs : List ℤ) (ks₀ ks : List ℕ) (w : ℕ) : Type 0 where
-  pub in-ordinals : Fill os₀ 0 (map placeOrdinal (answers bytes ids)) os i (map placeOrdinal (answers bytes (drop i ids)))
-  pub in-values : Fill vs₀ 0 (map placeValue (answers bytes ids)) vs i (map placeValue (answers bytes (drop i ids)))
-  pub in-kinds : Fill ks₀ 0 (map placeKind (answers bytes ids)) ks i (map placeKind (answers bytes (drop i ids)))
-  pub words : (w + pageWords (answers bytes (drop i ids))) % 2 ^ 64 ≡ pageWords (answers bytes ids) % 2 ^ 64
-  pub small : w < 2 ^ 64
+-- before id i: the lists at the start, and now with the words
+pub record Going (look : ℕ → Outcome Look) (ids : List ℕ) (i : ℕ) (l m : Lists) (w : ℕ) : Type 0 where
+  pub kept : Kept l m
+  pub above : (j v : ℕ) → i ≤ j → placeIn m j v ≡ placeIn l j v
+  pub each : (j : ℕ) → j < i → answeredAt look ids m j
+  pub words : w ≡ total (wordsAt look ids) 0 i % 2 ^ 64
+  pub reached : i ≤ length ids
 
-module _ (bytes ids : List ℕ) where
-  pub begins : (os : List ℕ) (vs : List ℤ) (ks : List ℕ) → Going bytes ids 0 os os vs vs ks ks 0
-  begins os vs ks =
+module _ (look : ℕ → Outcome Look) (ids : List ℕ) where
+  pub begins : (l : Lists) → Going look ids 0 l l 0
+  unfolding total
+  begins l =
       record {
-        in-ordinals = begun os 0 _ _ refl;
-        in-values = begun vs 0 _ _ refl;
-        in-kinds = begun ks 0 _ _ refl;
-        words = ap (λ (n : ℕ). n % 2 ^ 64) (zero-add (pageWords (answers bytes ids)));
-        small = omega arith;
+        kept = record { in-ordinals = refl; in-values = refl; in-kinds = refl };
+        above = λ j v b. refl;
+        each = λ j b. absurd (omega arith);
+        words = omega arith;
+        reached = omega arith;
       }
 
-  module _ {i : ℕ} {os₀ os : List ℕ} {vs₀ vs : List ℤ} {ks₀ ks : List ℕ} {w : ℕ} (g : Going bytes ids i os₀ os vs₀ vs ks₀ ks w) where
+  module _ {i : ℕ} {l m : Lists} {w : ℕ} (g : Going look ids i l m w) where
     -- the next id's answer is stored
-    pub goes-on : {h : Held} {os′ : List ℕ} {vs′ : List ℤ} {ks′ : List ℕ} {w′ : ℕ} → i < length ids → Holds (lookUp editions bytes (getD ids i 0)) h
-        → Stored h i os os′ vs vs′ ks ks′ → w′ ≡ (w + h .words) % 2 ^ 64 → Going bytes ids (i + 1) os₀ os′ vs₀ vs′ ks₀ ks′ w′
-    unfolding pageWords
-    goes-on l p t e =
-        let x : Outcome Look = lookUp editions bytes (getD ids i 0) in
-        let d : drop i ids ≡ getD ids i 0 ∷ drop (i + 1) ids = drop-cons ids i 0 l ∙ ap (λ (j : ℕ). getD ids i 0 ∷ drop j ids) (sym (add-one i)) in
-        let r : answers bytes (drop i ids) ≡ x ∷ answers bytes (drop (i + 1) ids) = ap (answers bytes) d in
+    pub goes-on : {h : Held} {n : Lists} {w′ : ℕ} → i < length ids → i < length (m .ordinals) → i < length (m .values) → i < length (m .kinds)
+        → Holds (answerOf look ids i) h → Stored h i (m .ordinals) (n .ordinals) (m .values) (n .values) (m .kinds) (n .kinds)
+        → w′ ≡ (w + h .words) % 2 ^ 64 → Going look ids (i + 1) l n w′
+    unfolding total
+    goes-on {n = n} b lo lv lk p t e =
+        let q : total (wordsAt look ids) 0 (i + 1) ≡ total (wordsAt look ids) 0 i + wordsAt look ids i =
+        let s : i + 1 ≡ suc i = omega arith in
+        let z : 0 + i ≡ i = omega arith in
+        ap (total (wordsAt look ids) 0) s ∙ ap (λ (x : ℕ). total (wordsAt look ids) 0 i + wordsAt look ids x) z in
+        let at-i : answeredAt look ids n i =
+        subst (λ (y : Held). Holds (answerOf look ids i) y) (sym (here t lo lv lk (wordsAt look ids i))) (holds-so p _ (sym (p .words))) in
         record {
-          in-ordinals =
-              part-more _ _ _ _ _ _ (g .in-ordinals) _ (i + 1) (_ ∷ []) _ (ap (map placeOrdinal) r) (t .ordinal ∙ ap (set os i) (p .ordinal)) refl;
-          in-values =
-              part-more _ _ _ _ _ _ (g .in-values) _ (i + 1) (_ ∷ []) _ (ap (map placeValue) r) (t .value ∙ ap (set vs i) (p .value)) refl;
-          in-kinds =
-              part-more _ _ _ _ _ _ (g .in-kinds) _ (i + 1) (_ ∷ []) _ (ap (map placeKind) r) (t .kind ∙ ap (set ks i) (p .kind)) refl;
-          words = omega (arith, e, ap pageWords r, p .words, g .words);
-          small = omega (arith, e);
+          kept = kept-both (g .kept) (keeps t);
+          above = λ j v d. other t j v (λ z. omega arith) ∙ g .above j v (omega arith);
+          each = λ j d.
+              equal-or j i (λ x. subst (answeredAt look ids n) (sym x) at-i)
+              (λ x. subst (λ (y : Held). Holds (answerOf look ids j) y) (sym (other t j (wordsAt look ids j) x)) (g .each j (omega arith)));
+          words = omega (arith, e, g .words, q, p .words);
+          reached = omega arith;
         }
 
-    -- no id is left
-    pub ends : length ids ≤ i → Paged (answers bytes ids) os₀ os vs₀ vs ks₀ ks w
-    unfolding pageWords
-    ends h =
-        let d : answers bytes (drop i ids) ≡ [] = ap (answers bytes) (drop-of-length-le ids {i = i} h) in
+    -- ids i to e have their answers
+    pub part-on : {e : ℕ} {n : Lists} {w′ : ℕ} → i ≤ e → e ≤ length ids → Filled look ids i e m n w w′ → Going look ids e l n w′
+    part-on {e = e} a b v =
+        let z : i + (e - i) ≡ e = omega arith in
+        let q : total (wordsAt look ids) 0 i + total (wordsAt look ids) i (e - i) ≡ total (wordsAt look ids) 0 e =
+        total-join (wordsAt look ids) i (e - i) ∙ ap (total (wordsAt look ids) 0) z in
         record {
-          in-ordinals = filled _ _ _ _ _ _ (g .in-ordinals) (ap (map placeOrdinal) d);
-          in-values = filled _ _ _ _ _ _ (g .in-values) (ap (map placeValue) d);
-          in-kinds = filled _ _ _ _ _ _ (g .in-kinds) (ap (map placeKind) d);
-          words = omega (arith, g .words, g .small, ap pageWords d);
+          kept = kept-both (g .kept) (v .within .kept);
+          above = λ j x d. v .within .above j x d ∙ g .above j x (omega arith);
+          each = λ j d.
+              below-or j i
+              (λ x. subst (λ (y : Held). Holds (answerOf look ids j) y) (sym (v .within .below j (wordsAt look ids j) x)) (g .each j x))
+              (λ x. v .each j x d);
+          words = omega (arith, g .words, v .words, q);
+          reached = b;
         }
 
--- ---- the lists keep their lengths
+-- ---- no id is left
 
-pub record Kept (os₀ os : List ℕ) (vs₀ vs : List ℤ) (ks₀ ks : List ℕ) : Type 0 where
-  pub in-ordinals : length os ≡ length os₀
-  pub in-values : length vs ≡ length vs₀
-  pub in-kinds : length ks ≡ length ks₀
+-- a list whose first places hold the answers, and whose others stay
+module _ {A : Type 0} (f : Outcome Look → A) (look : ℕ → Outcome Look) (ids : List ℕ) (l m : List A) (d : A) (len : length m ≡ length l)
+    (room : length ids ≤ length l) where
+  abbrev held : List A
+  held = map f (map look ids)
 
-pub stays : {os₀ os os′ : List ℕ} {vs₀ vs vs′ : List ℤ} {ks₀ ks ks′ : List ℕ} {h : Held} {i : ℕ} → Kept os₀ os vs₀ vs ks₀ ks
-    → Stored h i os os′ vs vs′ ks ks′ → Kept os₀ os′ vs₀ vs′ ks₀ ks′
-stays k t =
+  held-long : length held ≡ length ids
+  held-long = length-map (map look ids) f ∙ length-map ids look
+
+  front : sets l 0 held ≡ held ++ drop (length ids) l
+  front = sets-front l held (omega (arith, held-long)) ∙ ap (λ (n : ℕ). held ++ drop n l) held-long
+
+  -- an answer, and what stood there before
+  first : (j : ℕ) → j < length ids → getD (held ++ drop (length ids) l) j d ≡ f (answerOf look ids j)
+  first j b =
+      List·getD-append held _ d j (omega (arith, held-long))
+      ∙ getD-of-map f (map look ids) j (look 0) d (omega (arith, length-map ids look))
+      ∙ ap f (List·getD-map look ids j 0)
+
+  beyond : (j : ℕ) → length ids ≤ j → getD l j d ≡ getD (held ++ drop (length ids) l) j d
+  beyond j q =
+      let e : length ids + (j - length ids) ≡ j = omega arith in
+      let z : length held + (j - length ids) ≡ j = omega (arith, held-long) in
+      ap (λ (x : ℕ). getD l x d) (sym e)
+      ∙ sym (getD-drop (length ids) l (j - length ids) d)
+      ∙ sym (getD-append-add held (drop (length ids) l) (j - length ids) d)
+      ∙ ap (λ (x : ℕ). getD (held ++ drop (length ids) l) x d) z
+
+  long : length (held ++ drop (length ids) l) ≡ length l
+  long = omega (arith, length-append held (drop (length ids) l), held-long, length-drop (length ids) l)
+
+  as-page : ((j : ℕ) → j < length ids → getD m j d ≡ f (answerOf look ids j)) → ((j : ℕ) → length ids ≤ j → getD m j d ≡ getD l j d)
+      → m ≡ sets l 0 held
+  as-page each rest =
+      ext-getD d m (held ++ drop (length ids) l) (len ∙ sym long)
+      (λ j b. below-or j (length ids) (λ q. each j q ∙ sym (first j q)) (λ q. rest j q ∙ beyond j q))
+      ∙ sym front
+
+total-front : (f : ℕ → ℕ) (i n : ℕ) → total f i (suc n) ≡ f i + total (λ (j : ℕ). f (suc j)) i n
+unfolding total
+total-front f i zero = let e : i + 0 ≡ i = omega arith in let a : 0 + f (i + 0) ≡ f (i + 0) = omega arith in
+    let b : f i ≡ f i + 0 = omega arith in a ∙ ap f e ∙ b
+total-front f i (suc n) =
+    let e : i + suc n ≡ suc (i + n) = omega arith in
+    let q : total f i (suc n) ≡ f i + total (λ (j : ℕ). f (suc j)) i n = total-front f i n in
+    let a : f i + total (λ (j : ℕ). f (suc j)) i n + f (suc (i + n)) ≡ f i + (total (λ (j : ℕ). f (suc j)) i n + f (suc (i + n))) = omega arith in
+    ap₂ (λ (x y : ℕ). x + y) q (ap f e) ∙ a
+
+words-page : (look : ℕ → Outcome Look) (ids : List ℕ) → pageWords (map look ids) ≡ total (wordsAt look ids) 0 (length ids)
+unfolding pageWords total
+words-page look [] = refl
+words-page look (x ∷ ids) =
+    ap (λ (n : ℕ). placeWords (look x) + n) (words-page look ids) ∙ sym (total-front (wordsAt look (x ∷ ids)) 0 (length ids))
+
+pub ends : (look : ℕ → Outcome Look) (ids : List ℕ) {i : ℕ} {l m : Lists} {w : ℕ} → Going look ids i l m w → length ids ≤ i
+    → Room (length ids) (length (l .ordinals)) (length (l .values)) (length (l .kinds))
+    → Paged (map look ids) (l .ordinals) (m .ordinals) (l .values) (m .values) (l .kinds) (m .kinds) w
+ends look ids {i} {l} {m} g h r =
+    let e : length ids ≡ i = omega (arith, g .reached) in
     record {
-      in-ordinals = ap length (t .ordinal) ∙ simp length-set (k .in-ordinals);
-      in-values = ap length (t .value) ∙ simp length-set (k .in-values);
-      in-kinds = ap length (t .kind) ∙ simp length-set (k .in-kinds);
+      in-ordinals = as-page placeOrdinal look ids (l .ordinals) (m .ordinals) 0 (g .kept .in-ordinals) (r .ordinals-long)
+          (λ j b. g .each j (omega arith) .ordinal) (λ j b. ap (λ (y : Held). y .ordinal) (g .above j 0 (omega arith)));
+      in-values = as-page placeValue look ids (l .values) (m .values) (pos 0) (g .kept .in-values) (r .values-long)
+          (λ j b. g .each j (omega arith) .value) (λ j b. ap (λ (y : Held). y .value) (g .above j 0 (omega arith)));
+      in-kinds = as-page placeKind look ids (l .kinds) (m .kinds) 0 (g .kept .in-kinds) (r .kinds-long)
+          (λ j b. g .each j (omega arith) .kind) (λ j b. ap (λ (y : Held). y .kind) (g .above j 0 (omega arith)));
+      words = g .words ∙ ap (λ (n : ℕ). n % 2 ^ 64) (ap (total (wordsAt look ids) 0) (sym e) ∙ sym (words-page look ids));
     }
 
 -- ---- the reply and the lists
@@ -113,7 +182,7 @@ unfolding pageReply pageAfter
 refused-so p n os vs ks e = rw e (refl, (refl, (refl, refl)))
 
 pub done-so : (bytes ids : List ℕ) (w : ℕ) (os os′ : List ℕ) (vs vs′ : List ℤ) (ks ks′ : List ℕ) → Room (length ids) (length os) (length vs) (length ks)
-    → Paged (answers bytes ids) os os′ vs vs′ ks ks′ w
+    → Paged (map (lookUp editions bytes) ids) os os′ vs vs′ ks ks′ w
     → Leaves (page editions bytes ids (length os) (length vs) (length ks)) (Rp.Reply.Done w) os os′ vs vs′ ks ks′
 unfolding pageReply
 done-so bytes ids w os os′ vs vs′ ks ks′ r t =

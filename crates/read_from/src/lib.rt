@@ -186,7 +186,25 @@ fn told(stop: Stop) -> Readout
     Readout::More(count)
 }
 
-// On a column that keeps the header rules and fits these bytes.
+// On a column that keeps the header rules and fits these bytes, with room for so many pairs.
+pub fn read_up_to(
+    ids: &mut [u32],
+    values: &mut [i64],
+    bytes: &[u8],
+    column: Column,
+    room: usize,
+    target: u32,
+) -> Readout
+    requires { ⌜ (Roomy (now bytes) (columnOf column) room (now ids) (now values)) × (target ≤ maxId) ⌝ }
+    ensures { λ r.
+        ⌜ Leaves (readSteps (now (bytes .entry)) (columnOf column) target room) r (now (ids .entry)) (now (ids .exit)) (now (values .entry))
+        (now (values .exit)) ⌝ }
+{
+    let stop = fill(ids, values, bytes, column, room, target);
+    told(stop)
+}
+
+// With room for as many as both lists take.
 fn read_steps(
     ids: &mut [u32],
     values: &mut [i64],
@@ -200,8 +218,7 @@ fn read_steps(
         (now (ids .entry)) (now (ids .exit)) (now (values .entry)) (now (values .exit)) ⌝ }
 {
     let room = lookup::smaller(ids.len(), values.len());
-    let stop = fill(ids, values, bytes, column, room, target);
-    told(stop)
+    read_up_to(ids, values, bytes, column, room, target)
 }
 
 // ---- the calls

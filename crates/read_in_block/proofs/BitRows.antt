@@ -47,7 +47,7 @@ bits-after-one r rest n h = let one : r + trailingZeros 64 rest + 1 ≡ suc (r +
 
 module _ (p : ℕ) (h : Power p) (s : List ℕ) (t k : ℕ) where
   -- the index after the long's last id
-  abbrev last-index : ℕ
+  abbrev pub last-index : ℕ
   last-index = beforeLong p s t k + onesIn 64 (longAt p s t k)
 
   pub ones-left : (r rest inner : ℕ) → InLong p s t k r rest inner → inner + onesIn 64 rest ≡ last-index
@@ -63,7 +63,7 @@ module _ (p : ℕ) (h : Power p) (s : List ℕ) (t k : ℕ) where
       (λ g. absurd (omega (arith, l, long-whole p h s t k r rest inner x (r + trailingZeros 64 rest) refl g)))
 
   -- past a bit
-  bit-passed : (r rest inner : ℕ) (x : InLong p s t k r rest inner) → r + trailingZeros 64 rest < 64 * k + 64
+  pub bit-passed : (r rest inner : ℕ) (x : InLong p s t k r rest inner) → r + trailingZeros 64 rest < 64 * k + 64
       → InLong p s t k (suc (r + trailingZeros 64 rest)) (rest / 2 ^ (trailingZeros 64 rest + 1)) (suc inner)
   bit-passed r rest inner x l =
       let z : ℕ = trailingZeros 64 rest in

@@ -1,6 +1,7 @@
 -- Ids in a row. Assumes nothing.
-use Rattle.format.specs.Kit.{ℕ, zero, suc, _+_, _-_, _*_, _/_, _^_, _≤_, _<_, _≡_, List, [], _∷_, trailingZeros}
+use Rattle.format.specs.Kit.{ℕ, zero, suc, _+_, _-_, _*_, _/_, _^_, _≤_, _<_, _≡_, List, [], _∷_, _++_, onesIn, trailingZeros}
 use Rattle.format.specs.Limits.{blockPlaces}
+use Rattle.format.specs.Bytes.{lowAt}
 use Rattle.next_in_block.specs.First.{entryIn}
 
 -- k ids from id on
@@ -42,3 +43,24 @@ BitsIn r rest zero = r ≡ r
 BitsIn r rest (suc n) =
     let z : ℕ = trailingZeros 64 rest in
     (z < 64) × (r + z < blockPlaces) × BitsIn (suc (r + z)) (rest / 2 ^ (z + 1)) n
+
+-- ---- bits of longs that follow each other, which stand at m
+
+-- long k, from place r on
+abbrev pub bitsAt : List ℕ → ℕ → ℕ → ℕ → ℕ
+bitsAt s m k r = lowAt 8 s (m + 8 * k) / 2 ^ (r - 64 * k)
+
+-- the ids of n longs from long k on, those of long k from place r on
+unfoldable pub longsFrom : List ℕ → ℕ → ℕ → ℕ → ℕ → ℕ → List ℕ
+longsFrom s m b zero k r = []
+longsFrom s m b (suc n) k r = bitsFrom b r (bitsAt s m k r) (onesIn 64 (bitsAt s m k r)) ++ longsFrom s m b n (suc k) (64 * suc k)
+
+-- how many they are
+unfoldable pub onesAhead : List ℕ → ℕ → ℕ → ℕ → ℕ → ℕ
+onesAhead s m zero k r = 0
+onesAhead s m (suc n) k r = onesIn 64 (bitsAt s m k r) + onesAhead s m n (suc k) (64 * suc k)
+
+-- the place after them
+abbrev pub placeAfter : ℕ → ℕ → ℕ → ℕ
+placeAfter zero k r = r
+placeAfter (suc n) k r = 64 * (k + suc n)

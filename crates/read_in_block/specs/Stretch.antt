@@ -1,5 +1,5 @@
 -- The pairs of one block from a place on. Assumes nothing.
-use Rattle.format.specs.Kit.{ℕ, _+_, _-_, _*_, _/_, _%_, _^_, _≤_, _<_, _≡_, Bool, true, false, List, ℤ, length, onesIn, _⊎_}
+use Rattle.format.specs.Kit.{ℕ, zero, suc, _+_, _-_, _*_, _/_, _%_, _^_, _≤_, _<_, _≡_, Bool, true, false, List, ℤ, length, onesIn, _⊎_}
 use Rattle.format.specs.Limits.{maxBlock, blockPlaces, bitmapLongs}
 use Rattle.format.specs.Refusals.{refused, BROKEN}
 use Rattle.format.specs.Bytes.{lowAt}
@@ -11,7 +11,10 @@ use Rattle.format.specs.ReadFrom.{isNone}
 use Rattle.blocks.specs.Kinds.{kindIs}
 use Rattle.blocks.specs.declared.Block.{Block}
 use Rattle.read_in_block.specs.Parts.{Reads}
+use Rattle.read_in_block.specs.Rows.{bitsAt, onesAhead, placeAfter}
 use Rattle.read_in_block.specs.declared.Stretch as We
+use Rattle.read_in_block.specs.declared.dense.Longs as Lo
+use Rattle.read_in_block.specs.declared.dense.Row as Ro
 
 -- steps 1 to 4 led into block b, for each of its places
 pub record InBlock (bytes : List ℕ) (c : Opened) (b : ℕ) (k : Block) : Type 0 where
@@ -71,3 +74,27 @@ pub record LongTo (bytes : List ℕ) (c : Opened) (room b : ℕ) (x : Block) (i 
       (inner + (w .count - i) ≡ beforeLong p s (x .start) k + onesIn 64 (longAt p s (x .start) k))
       × (nextSteps bytes c (b * blockPlaces + (64 * k + 64)) ≡ nextSteps bytes c (b * blockPlaces + w .place))
   pub index : (w .count ≡ i) ⊎ (inner + (w .count - i) ≤ x .count)
+
+-- ---- whole longs of a dense block
+
+-- n longs, from place r of long k on, whose ids follow each other from index `inner` on
+abbrev pub InLongs : ℕ → List ℕ → ℕ → ℕ → ℕ → ℕ → ℕ → Type 0
+InLongs p s t zero k r inner = k ≡ k
+InLongs p s t (suc n) k r inner =
+    let rest : ℕ = bitsAt s (t + rankBytes p) k r in
+    InLong p s t k r rest inner × InLongs p s t n (suc k) (64 * suc k) (inner + onesIn 64 rest)
+
+-- from place r on, whose index is `inner`: so many longs, with at most so many ids
+pub record LongsTo (p : ℕ) (s : List ℕ) (t r inner most : ℕ) (w : Lo.Longs) : Type 0 where
+  pub number : ℕ
+  pub upto : r / 64 + number ≤ bitmapLongs
+  pub follow : InLongs p s t number (r / 64) r inner
+  pub ones : w .ones ≡ onesAhead s (t + rankBytes p) number (r / 64) r
+  pub few : w .ones ≤ most
+  pub place : w .place ≡ placeAfter number (r / 64) r
+
+-- from place r on, up to a failed step or not
+pub record WholeTo (bytes : List ℕ) (c : Opened) (room b i r : ℕ) (ids : List ℕ) (vs : List ℤ) (w : Ro.Row) (ids′ : List ℕ) (vs′ : List ℤ) : Type 0 where
+  pub reads : Reads bytes c room i (b * blockPlaces + r) ids vs (w .count) (b * blockPlaces + w .place) ids′ vs′
+  pub place : w .place ≤ blockPlaces
+  pub failure : w .broken ≡ true → nextSteps bytes c (b * blockPlaces + w .place) ≡ refused BROKEN 0

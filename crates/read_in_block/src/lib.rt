@@ -9,14 +9,20 @@ ghost use Rattle.format.specs.Limits.{blockPlaces};
 ghost use Rattle.format.specs.Opening.{headOk, lengthOk, valueOf};
 ghost use Rattle.format.specs.Drawn.{drawn};
 ghost use Rattle.column.specs.Opened.{columnOf};
+ghost use Rattle.values.specs.Edition.{fetchedOf};
 ghost use Rattle.read_in_block.specs.Stretch.{InBlock, Lent, StretchTo};
 use blocks::Block;
 use blocks::Kind;
 use column::Column;
+use scaled_values::Slotted;
+use values::Fetched;
 
 mod dense;
 mod full;
 mod sparse;
+
+// In a block of fewer ids than that pairs are taken one by one.
+const FEW: usize = 6;
 
 // How many pairs the lists hold, the place of the block that comes next, and whether a step failed there. `left`: the block has an id from that place
 // on, whatever its value is; else nothing is known of what comes.
@@ -50,6 +56,21 @@ pub fn draw(
     values::draw(values, section, edition, head.count, fields, x, from, end)
 }
 
+// The value of one ordinal (step 7).
+pub fn value_at(bytes: &[u8], column: Column, ordinal: u64) -> Fetched
+    requires { ⌜ (headOk (columnOf column .head) ≡ true) × (lengthOk (now bytes) (columnOf column) ≡ true) × (ordinal < column .head .count) ⌝ }
+    ensures { λ r. ⌜ fetchedOf r ≡ valueOf (now (bytes .entry)) (columnOf column) ordinal ⌝ }
+{
+    let head = column.head;
+    let end = numbers::size(column.start) + numbers::size(head.id_bytes);
+    let section = &bytes[end..];
+    let edition = head.edition;
+    let fields = head.fields;
+    let slot: Slotted = values::slot_of(section, edition, head.count, fields, ordinal);
+    let stored = values::number_in(section, edition, slot);
+    values::value_of(section, edition, fields, slot, stored)
+}
+
 // From the place on.
 pub fn pairs_in(
     ids: &mut [u32],
@@ -68,6 +89,9 @@ pub fn pairs_in(
         ⌜ StretchTo (now (bytes .entry)) (columnOf column) room b from place (now (ids .entry)) (now (values .entry)) w (now (ids .exit))
         (now (values .exit)) ⌝ }
 {
+    if block.count < FEW {
+        return sparse::one_by_one(ids, values, bytes, column, room, from, b, block, place);
+    }
     let kind = block.kind;
     match kind {
         Kind::Sparse => sparse::pairs(ids, values, bytes, column, room, from, b, block, place),

@@ -12,6 +12,7 @@ ghost use Rattle.read_in_block.specs.Stretch.{InBlock, Lent, StretchTo};
 use crate::Stretch;
 use blocks::Block;
 use column::Column;
+use values::Fetched;
 
 // How far the entries at t rise, from entry j to `end`, the first of them from r on.
 fn rising(s: &[u8], t: usize, j: usize, end: usize, r: usize) -> usize
@@ -59,6 +60,71 @@ fn put_entries(
         i += 1;
     }
     y
+}
+
+// The same one by one, which is sooner where there are few.
+pub fn one_by_one(
+    ids: &mut [u32],
+    values: &mut [i64],
+    bytes: &[u8],
+    column: Column,
+    room: usize,
+    from: usize,
+    b: usize,
+    block: Block,
+    place: usize,
+) -> Stretch
+    requires { ⌜ (Lent (now bytes) (columnOf column) room from (now ids) (now values)) × (InBlock (now bytes) (columnOf column) b block)
+        × (kindOf (block .count) ≡ sparse) × (place < blockPlaces) ⌝ }
+    ensures { λ w.
+        ⌜ StretchTo (now (bytes .entry)) (columnOf column) room b from place (now (ids .entry)) (now (values .entry)) w (now (ids .exit))
+        (now (values .exit)) ⌝ }
+{
+    let head = column.head;
+    let start = numbers::size(column.start);
+    let after = start + numbers::size(head.id_bytes);
+    let s = &bytes[start..after];
+    let t = block.start;
+    let count = block.count;
+    let mut j = 0;
+    let mut i = from;
+    let mut r = place;
+    while j < count {
+        let e = numbers::size(numbers::short_at(s, t + 2 * j));
+        if e < r {
+            j += 1;
+            continue;
+        }
+        if i == room {
+            return Stretch {
+                count: i,
+                place: r,
+                broken: false,
+                left: true,
+            };
+        }
+        let found = crate::value_at(bytes, column, block.ordinal + numbers::long(j));
+        let Fetched::Value(value) = found else {
+            return Stretch {
+                count: i,
+                place: r,
+                broken: true,
+                left: false,
+            };
+        };
+        let id = next::id_of(b, e);
+        ids[i] = id;
+        values[i] = value;
+        i += 1;
+        j += 1;
+        r = e + 1;
+    }
+    Stretch {
+        count: i,
+        place: Block::PLACES,
+        broken: false,
+        left: false,
+    }
 }
 
 // Entries that rise are taken together. One below the place is passed over: what comes next is the first entry from the place on, in

@@ -18,17 +18,11 @@ ghost use Rattle.run_check.specs.Tested.{TestedAs};
 use answers::Fields;
 use packings::Order;
 use run_values::Summary;
+use scaling::Range;
 
 // ---- a run
 
-// The least and the greatest of some numbers, and their greatest common divisor with one before.
-pub struct Range {
-    pub lo: u64,
-    pub hi: u64,
-    pub common: u64,
-}
-
-// Of n numbers of w bits. At width 0, where there are no bytes, they are not drawn.
+// The range of n numbers of w bits. At width 0, where there are no bytes, they are not drawn.
 fn range_of(s: &[u8], n: usize, w: usize, d: u64) -> Range
     requires { ⌜ (w ≤ maxWidth) × (0 < n) × (n ≤ runLength) × (n * w ≤ 8 * length (now s)) ⌝ }
     ensures { λ r.

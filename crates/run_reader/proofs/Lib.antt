@@ -1,2 +1,3 @@
 -- A run as a section of its own.
 pub mod Part
+pub mod Rest

@@ -1,6 +1,7 @@
--- A run whose values are all there is a packed section of its own, as edition 1's is; and a buffer that is filled run by run. Assumes nothing.
-use Rattle.format.specs.Kit.{_≡_, sym, ap, _∙_, true, cond, List, _++_, some, ℕ, suc, _+_, _-_, _*_, _≤_, _<_, suc-mul, arith, eqb, ℤ, length, take, drop}
-use Rattle.format.specs.Kit.{length-take-le, length-drop, drop-drop, take-append-drop, le-leb, eq-eqb, putMid}
+-- A run whose numbers are all within the section is a packed section of its own, as edition 1's is; and a buffer that is filled run by run. Assumes
+-- nothing.
+use Rattle.format.specs.Kit.{_≡_, sym, ap, _∙_, true, cond, _||_, List, _++_, some, ℕ, suc, _+_, _-_, _*_, _≤_, _<_, suc-mul, mul-le-mul-right, arith, leb}
+use Rattle.format.specs.Kit.{eqb, ℤ, length, take, drop, length-take-le, length-drop, drop-drop, take-append-drop, le-leb, eq-eqb, ne-eqb, putMid}
 use Rattle.format.specs.Limits.{maxWidth}
 use Rattle.format.specs.HeaderNumbers.{zigzag, unzigzag}
 use Rattle.format.specs.Bits.{packedBytes, fetched}
@@ -10,7 +11,7 @@ use Rattle.format.specs.ValueRuns.{runLength, directoryLength, Summary, summary
 use Rattle.format.specs.Editions.{runs, codec, highFirst}
 use Rattle.format.specs.Check.{allValues}
 use Rattle.format.specs.Stores.{Fill}
-use Rattle.laws.proofs.Cases.{true-or}
+use Rattle.laws.proofs.Cases.{true-or, equal-or}
 use Rattle.laws.proofs.Tests.{true-both}
 use Rattle.laws.proofs.Bits.{within, fetched-front}
 use Rattle.laws.proofs.Fits.{unzigzag-zigzag}
@@ -21,63 +22,71 @@ use Rattle.run_values.specs.Summaries.{reachesIn}
 use Rattle.run_values.proofs.Reached.{narrow, reach, at-reached, not-reached, reached}
 use Rattle.laws.proofs.Editions.{value-in}
 
-module _ (s : List ℕ) (from g : ℕ) (x : Summary) (n : ℕ) (vs : List ℤ) (all : allValues n (inRun g (drop from s) x) ≡ some vs) where
-  -- each number is within the section
+-- where all values are there, the last number is within the section
+pub all-stands : (s : List ℕ) (from g : ℕ) (x : Summary) (n : ℕ) (vs : List ℤ) → allValues n (inRun g (drop from s) x) ≡ some vs → 0 < n
+    → reachesIn (length s - from) (x .start) (x .width) (n - 1) ≡ true
+all-stands s from g x n vs all one =
+    true-or (reachesIn (length s - from) (x .start) (x .width) (n - 1))
+    (λ t. t)
+    (λ t. absurd (let y = not-reached s from g x (n - 1) t ∙ all-at n _ vs all (n - 1) (omega arith) in let z : _≡_ {A = ℕ} 0 1 = cc in omega arith))
+
+module _ (s : List ℕ) (from : ℕ) (x : Summary) (n : ℕ) (one : 0 < n) (stands : reachesIn (length s - from) (x .start) (x .width) (n - 1) ≡ true) where
+  -- and so is each before it
   reaches : (k : ℕ) → k < n → reachesIn (length s - from) (x .start) (x .width) k ≡ true
   reaches k h =
-      true-or (reachesIn (length s - from) (x .start) (x .width) k)
-      (λ t. t)
-      (λ t. absurd (let y = not-reached s from g x k t ∙ all-at n _ vs all k h in let z : _≡_ {A = ℕ} 0 1 = cc in omega arith))
+      let w : ℕ = x .width in
+      let room : ℕ = 8 * (length s - from - x .start) in
+      let l : k ≤ n - 1 = omega arith in
+      true-both _ _ (le-leb w maxWidth (narrow _ _ _ _ stands))
+      (equal-or w 0
+      (λ z. rw (eq-eqb w 0 z))
+      (λ z. rw (ne-eqb w 0 z) (le-leb (k * w + w) room (omega (arith, reach _ _ _ _ stands z, mul-le-mul-right w l)))))
 
-  module _ (one : 0 < n) where
-    pub run-narrow : x .width ≤ maxWidth
-    run-narrow = narrow _ _ _ _ (reaches 0 one)
+  pub run-narrow : x .width ≤ maxWidth
+  run-narrow = narrow _ _ _ _ stands
 
-    pub run-starts : (x .width ≡ 0 → ⊥) → x .start ≤ length s - from
-    run-starts z = omega (arith, reach _ _ _ _ (reaches 0 one) z)
+  pub run-starts : (x .width ≡ 0 → ⊥) → x .start ≤ length s - from
+  run-starts z = omega (arith, reach _ _ _ _ stands z)
 
-    module _ (inside : from ≤ length s) (at : ℕ) (is : at ≡ cond (eqb (x .width) 0) from (from + x .start)) where
-      -- the last one, and so all
-      last : (n - 1) * x .width + x .width ≡ n * x .width
-      last = let e : suc (n - 1) ≡ n = omega arith in sym (suc-mul (n - 1) (x .width)) ∙ ap (λ (k : ℕ). k * x .width) e
+  module _ (inside : from ≤ length s) (at : ℕ) (is : at ≡ cond (eqb (x .width) 0) from (from + x .start)) where
+    -- the last one, and so all
+    last : (n - 1) * x .width + x .width ≡ n * x .width
+    last = let e : suc (n - 1) ≡ n = omega arith in sym (suc-mul (n - 1) (x .width)) ∙ ap (λ (k : ℕ). k * x .width) e
 
-      pub run-inside : (at ≤ length s) × (packedBytes n (x .width) ≤ length s - at)
-      run-inside =
-          let e = at-reached (length s) from (x .start) (x .width) (n - 1) at inside is (reaches (n - 1) (omega arith)) in
-          (e .0, omega (arith, e .1, last))
+    pub run-inside : (at ≤ length s) × (packedBytes n (x .width) ≤ length s - at)
+    run-inside =
+        let e = at-reached (length s) from (x .start) (x .width) (n - 1) at inside is stands in
+        (e .0, omega (arith, e .1, last))
 
-      module _ (b : ℕ) (bytes : b ≡ packedBytes n (x .width)) (z : ℕ) (low : z ≡ zigzag (x .smallest)) where
-        abbrev part : List ℕ
-        part = take b (drop at s)
+    module _ (g b : ℕ) (bytes : b ≡ packedBytes n (x .width)) (z : ℕ) (low : z ≡ zigzag (x .smallest)) where
+      abbrev part : List ℕ
+      part = take b (drop at s)
 
-        abbrev own : Fields
-        own = record { width = x .width; smallest = z; divisor = g }
+      abbrev own : Fields
+      own = record { width = x .width; smallest = z; divisor = g }
 
-        long : length part ≡ packedBytes n (x .width)
-        long = length-take-le b (drop at s) (omega (arith, run-inside .1, length-drop at s)) ∙ bytes
+      long : length part ≡ packedBytes n (x .width)
+      long = length-take-le b (drop at s) (omega (arith, run-inside .1, length-drop at s)) ∙ bytes
 
-        pub run-rules : 0 < g → scaled highFirst .fieldsOk n own (length part) ≡ true
-        unfolding highFirst
-        run-rules p =
-            scaled-rules highFirst n own (length part)
-            ∙ true-both _ _ (true-both _ _ (le-leb (x .width) maxWidth run-narrow) (le-leb 1 g p)) (eq-eqb (length part) (packedBytes n (x .width)) long)
+      pub run-rules : 0 < g → scaled highFirst .fieldsOk n own (length part) ≡ true
+      unfolding highFirst
+      run-rules p =
+          scaled-rules highFirst n own (length part)
+          ∙ true-both _ _ (true-both _ _ (le-leb (x .width) maxWidth run-narrow) (le-leb 1 g p)) (eq-eqb (length part) (packedBytes n (x .width)) long)
 
-        -- number k is the same in its part
-        same-number : (k : ℕ) → k < n → fetched part (x .width) k ≡ fetched (drop at s) (x .width) k
-        same-number k h =
-            sym (fetched-front part (drop b (drop at s)) (x .width) k (omega (arith, within k (x .width) n h, long)))
-            ∙ ap (λ (l : List ℕ). fetched l (x .width) k) (take-append-drop b (drop at s))
+      -- number k is the same in its part
+      same-number : (k : ℕ) → k < n → fetched part (x .width) k ≡ fetched (drop at s) (x .width) k
+      same-number k h =
+          sym (fetched-front part (drop b (drop at s)) (x .width) k (omega (arith, within k (x .width) n h, long)))
+          ∙ ap (λ (l : List ℕ). fetched l (x .width) k) (take-append-drop b (drop at s))
 
-        same-value : (k : ℕ) → k < n → scaled highFirst .value n own part k ≡ inRun g (drop from s) x k
-        unfolding highFirst
-        same-value k h =
-            scaled-value highFirst n own part k
-            ∙ ap (λ (m : ℤ). signed64 (valueAt m g (fetched part (x .width) k))) (ap unzigzag low ∙ unzigzag-zigzag (x .smallest))
-            ∙ ap (λ (y : ℕ). signed64 (valueAt (x .smallest) g y)) (same-number k h)
-            ∙ reached s from g x k at is (reaches k h)
-
-        pub run-values : allValues n (scaled highFirst .value n own part) ≡ some vs
-        run-values = all-same n _ _ same-value ∙ all
+      pub same-value : (k : ℕ) → k < n → scaled highFirst .value n own part k ≡ inRun g (drop from s) x k
+      unfolding highFirst
+      same-value k h =
+          scaled-value highFirst n own part k
+          ∙ ap (λ (m : ℤ). signed64 (valueAt m g (fetched part (x .width) k))) (ap unzigzag low ∙ unzigzag-zigzag (x .smallest))
+          ∙ ap (λ (y : ℕ). signed64 (valueAt (x .smallest) g y)) (same-number k h)
+          ∙ reached s from g x k at is (reaches k h)
 
 -- ---- the runs in turn
 

@@ -91,7 +91,7 @@ pub fn summary_at(section: &[u8], r: usize) -> Summary
 }
 
 // Whether the w bits of number k, from a start on, are within so many bytes.
-fn reaches(room: usize, start: u64, w: usize, k: usize) -> bool
+pub fn reaches(room: usize, start: u64, w: usize, k: usize) -> bool
     requires { ⌜ k < runLength ⌝ }
     ensures { λ r. ⌜ r ≡ reachesIn room start w k ⌝ }
 {

@@ -12,7 +12,6 @@ use Rattle.packing.proofs.Join.{place-next}
 use Rattle.laws.proofs.Digits.{below-drop}
 use Rattle.laws.proofs.Fits.{unzigzag-fits}
 use Rattle.scaling.specs.Reciprocal.{Reciprocal}
-use Rattle.scaling.proofs.Guess.{reciprocal-zero}
 use Rattle.packings.specs.declared.Order.{Order}
 use Rattle.packings.specs.Packings.{packingOf, narrowerBy}
 use Rattle.packings.proofs.Packings.{fetch-small}
@@ -21,6 +20,7 @@ use Rattle.scaled_values.proofs.Facts.{Rules}
 use Rattle.scaled_values.proofs.Held.{numbers-below, length-numbers, number-at}
 use Rattle.laws.proofs.Gcd.{gcdFrom-one}
 use Rattle.scaled_check.specs.ValuesOk.{rangeOk, numbersOk}
+use Rattle.scaled_check.specs.Numbered.{Known, okFrom}
 use Rattle.scaling.specs.Numbers.{leastFrom, mostFrom}
 use Rattle.scaling.proofs.Stored.{most-first, fits-below}
 use Rattle.scaling.proofs.Ranged.{most-below, least-le}
@@ -63,6 +63,15 @@ module _ (o : Order) (n : ℕ) (h : Fields) (s : List ℕ) where
   unfolding numbersOk
   end lo hi d i k = let l : length xs ≤ i = omega (arith, length-numbers o (h .width) n s) in rw drop-of-length-le
 
+  -- a number within lo and hi that d divides changes nothing
+  pub kept : (lo hi d i : ℕ) → i < n → let x = packingOf o .fetch s (h .width) i in lo ≤ x → x ≤ hi → gcd d x ≡ d
+      → okFrom o n h s (i + 1) lo hi d ≡ okFrom o n h s i lo hi d
+  kept lo hi d i k a b e =
+      let x : ℕ = packingOf o .fetch s (h .width) i in
+      let p : min lo x ≡ lo = omega (arith, a) in
+      let q : max hi x ≡ hi = omega (arith, b) in
+      sym (turn lo hi d i k ∙ rw (p, q, e))
+
   -- where 0, the top bit and the divisor 1 were seen, and the greatest number of the width would fit
   settled-is : Rules o n h (length s) → h .smallest < 2 ^ 64 → (lo hi d i : ℕ) → hi < 2 ^ h .width → fits64 (valueFrom h (2 ^ h .width - 1)) ≡ true
       → (eqb lo 0 && leb (2 ^ narrowerBy o (h .width)) hi && eqb d 1) ≡ true → numbersOk o h lo hi d (drop i xs) ≡ true
@@ -94,67 +103,48 @@ most-is w half z e =
     let q : 2 ^ w ≡ 2 ^ (w - 1) * 2 = ap (λ (i : ℕ). 2 ^ i) k ∙ pow-suc 2 (w - 1) in
     omega (arith, pow-pos (w - 1), e)
 
--- that number, the least that needs the width, and a section that keeps the header rules
-pub record Sizes (o : Order) (n : ℕ) (h : Fields) (s : List ℕ) (most top : ℕ) : Type 0 where
-  pub greatest : most ≡ 2 ^ h .width - 1
-  pub high : top ≡ 2 ^ narrowerBy o (h .width)
-  pub facts : Rules o n h (length s)
+-- all numbers are within the section
+pub enough : {o : Order} {n : ℕ} {h : Fields} (s : List ℕ) → Rules o n h (length s) → n * h .width ≤ 8 * length s
+enough s f = omega (arith, f .bytes)
 
--- the numbers from i on, the first of which stands after the first skip bits of byte at, make of lo, hi and g what all make of the first
--- ones; m serves for divisions by g
-pub record Turn (o : Order) (n : ℕ) (h : Fields) (s : List ℕ) (lo hi g m i at skip : ℕ) : Type 0 where
-  pub inside : i ≤ n
+-- the numbers from i on, the first of which stands after the first skip bits of byte at, make of lo, hi and g the answer; m serves for
+-- divisions by g
+pub record Turn (o : Order) (n : ℕ) (h : Fields) (s : List ℕ) (upto : ℕ) (answer : Bool) (lo hi g m i at skip : ℕ) : Type 0 where
+  pub inside : i ≤ upto
   pub below : hi < 2 ^ h .width
-  pub same : numbersOk o h lo hi g (drop i (numbersIn o (h .width) n s)) ≡ numbersOk o h (2 ^ h .width - 1) 0 0 (numbersIn o (h .width) n s)
+  pub same : okFrom o n h s i lo hi g ≡ answer
   pub quick : Reciprocal g m
   pub place : at * 8 + skip ≡ i * h .width
   pub few : skip < 8
 
-module _ {o : Order} {n : ℕ} {h : Fields} {s : List ℕ} {most top : ℕ} (z : Sizes o n h s most top) where
-  -- all numbers are within the section
-  pub enough : n * h .width ≤ 8 * length s
-  enough = omega (arith, z .facts .bytes)
+module _ {o : Order} {n : ℕ} {h : Fields} {s : List ℕ} {upto : ℕ} {answer : Bool} {lo hi g m i at skip : ℕ}
+    (f : Rules o n h (length s)) (t : Turn o n h s upto answer lo hi g m i at skip) where
+  pub room : i < n → at * 8 + skip + h .width ≤ 8 * length s
+  room k = omega (arith, within i (h .width) n k, enough s f, t .place)
 
-  pub first : Turn o n h s most 0 0 0 0 0 0
-  first =
+  pub next : i < upto → upto ≤ n → {x lo2 hi2 g2 m2 : ℕ} → x ≡ packingOf o .fetch s (h .width) i → lo2 ≡ min lo x → hi2 ≡ max hi x → g2 ≡ gcd g x
+      → Reciprocal g2 m2 → Turn o n h s upto answer lo2 hi2 g2 m2 (i + 1) (at + (skip + h .width) / 8) (bitAnd (skip + h .width) 7)
+  next k b e el eh eg r =
+      let mask : bitAnd (skip + h .width) 7 ≡ (skip + h .width) % 8 = and-mask (skip + h .width) 3 in
       record {
-        inside = zero-le;
-        below = pow-pos (h .width);
-        same = ap (λ (k : ℕ). numbersOk o h k 0 0 (numbersIn o (h .width) n s)) (z .greatest);
-        quick = reciprocal-zero;
-        place = sym (zero-mul (h .width));
+        inside = omega arith;
+        below = omega (arith, fetch-small o s (h .width) i, t .below);
+        same = sym (turn o n h s lo hi g i (omega arith) ∙ rw (el, eh, eg, e)) ∙ t .same;
+        quick = r;
+        place = rw mask (place-next i (h .width) at skip (t .place));
         few = omega arith;
       }
 
-  module _ {lo hi g m i at skip : ℕ} (t : Turn o n h s lo hi g m i at skip) where
-    pub room : i < n → at * 8 + skip + h .width ≤ 8 * length s
-    room k = omega (arith, within i (h .width) n k, enough, t .place)
+module _ {o : Order} {h : Fields} {sure : Bool} {top : ℕ} (p : Known o h sure top) (n : ℕ) (s : List ℕ) (lo hi g i : ℕ) where
+  -- the rest cannot change the answer
+  pub stops : Rules o n h (length s) → hi < 2 ^ h .width → {over : Bool} → over ≡ (sure && (eqb lo 0 && leb top hi && eqb g 1)) → over ≡ true
+      → okFrom o n h s i lo hi g ≡ true
+  stops f b eo ov =
+      let r = both-true sure (eqb lo 0 && leb top hi && eqb g 1) (sym eo ∙ ov) in
+      let q : (eqb lo 0 && leb top hi && eqb g 1) ≡ true = r .1 in
+      settled-is o n h s f (p .small) lo hi g i b (sym (p .sure-is) ∙ r .0) (rw (p .top-is) at q)
 
-    pub next : i < n → {x lo2 hi2 g2 m2 : ℕ} → x ≡ packingOf o .fetch s (h .width) i → lo2 ≡ min lo x → hi2 ≡ max hi x → g2 ≡ gcd g x
-        → Reciprocal g2 m2 → Turn o n h s lo2 hi2 g2 m2 (i + 1) (at + (skip + h .width) / 8) (bitAnd (skip + h .width) 7)
-    next k e el eh eg r =
-        let mask : bitAnd (skip + h .width) 7 ≡ (skip + h .width) % 8 = and-mask (skip + h .width) 3 in
-        record {
-          inside = omega arith;
-          below = omega (arith, fetch-small o s (h .width) i, t .below);
-          same = sym (turn o n h s lo hi g i k ∙ rw (el, eh, eg, e)) ∙ t .same;
-          quick = r;
-          place = rw mask (place-next i (h .width) at skip (t .place));
-          few = omega arith;
-        }
-
-    -- the rest cannot change the answer
-    pub stops : h .smallest < 2 ^ 64 → {sure over : Bool} → sure ≡ fits64 (valueFrom h most)
-        → over ≡ (sure && (eqb lo 0 && leb top hi && eqb g 1)) → over ≡ true
-        → true ≡ numbersOk o h (2 ^ h .width - 1) 0 0 (numbersIn o (h .width) n s)
-    stops small {sure} es eo ov =
-        let r = both-true sure (eqb lo 0 && leb top hi && eqb g 1) (sym eo ∙ ov) in
-        let k : fits64 (valueFrom h most) ≡ true = sym es ∙ r .0 in
-        let q : (eqb lo 0 && leb top hi && eqb g 1) ≡ true = r .1 in
-        sym (settled-is o n h s (z .facts) small lo hi g i (t .below) (rw (z .greatest) at k) (rw (z .high) at q)) ∙ t .same
-
-    -- none is left
-    pub ended : n ≤ i → {b r : Bool} → b ≡ (eqb lo 0 && leb top hi && eqb g 1) → r ≡ (b && fits64 (valueFrom h hi))
-        → r ≡ numbersOk o h (2 ^ h .width - 1) 0 0 (numbersIn o (h .width) n s)
-    unfolding rangeOk
-    ended k {b} {r} e er = er ∙ sym (end o n h s lo hi g i k ∙ rw (e, z .high)) ∙ t .same
+  -- none is left
+  pub ended : n ≤ i → {b r : Bool} → b ≡ (eqb lo 0 && leb top hi && eqb g 1) → r ≡ (b && fits64 (valueFrom h hi)) → r ≡ okFrom o n h s i lo hi g
+  unfolding rangeOk
+  ended k {b} {r} e er = er ∙ sym (end o n h s lo hi g i k ∙ rw (e, p .top-is))

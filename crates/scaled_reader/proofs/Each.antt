@@ -1,5 +1,5 @@
 -- Values fetched one after the other: the next one, and that it is worked out without a wrap. Assumes nothing.
-use Rattle.format.specs.Kit.{_≡_, refl, sym, ap, ap₂, _∙_, List, [], _∷_, _++_, map, ℕ, zero, suc, _+_, _*_, _^_, _<_, _≤_}
+use Rattle.format.specs.Kit.{_≡_, refl, sym, ap, ap₂, _∙_, subst, List, [], _∷_, _++_, map, ℕ, zero, suc, _+_, _*_, _^_, _<_, _≤_}
 use Rattle.format.specs.Kit.{zero-mul, one-mul, add-zero, mul-comm, add-one, arith, decLt, ℤ, length, drop, set, getD, length-map, drop-cons}
 use Rattle.format.specs.Kit.{drop-length, sets, mag}
 use Rattle.format.specs.HeaderNumbers.{unzigzag}
@@ -14,7 +14,9 @@ use Rattle.packings.specs.declared.Order.{Order}
 use Rattle.packings.specs.Packings.{packingOf, cut}
 use Rattle.scaled_values.specs.Held.{numbersIn, valueFrom, valuesFrom}
 use Rattle.scaled_values.proofs.Held.{length-numbers, number-at}
-use Rattle.scaled_reader.specs.Stored.{fourOf, FourFit}
+use Rattle.scaled_values.proofs.Facts.{rules-kept}
+use Rattle.packing.proofs.Join.{window-inside}
+use Rattle.scaled_reader.specs.Stored.{fourOf, FourFit, Eights}
 use Rattle.laws.proofs.Stores.{part-more}
 
 -- ---- one value
@@ -118,10 +120,42 @@ module _ (o : Order) (s : List ℕ) (w i x : ℕ) (next : (k : ℕ) → k * w + 
           values-more o fs w n s (i + k) b
           ∙ ap₂ {C = List ℤ} (λ (z : ℤ) (zs : List ℤ). z ∷ zs) (sym (p .value)) (ap (λ (j : ℕ). valuesFrom fs (drop j (numbersIn o w n s))) u ∙ r)
 
+-- the same four, by the width and the divisor themselves
+pub four-fit : {o : Order} {fs : Fields} {n : ℕ} {s : List ℕ} {low i x : ℕ} → Four o fs (fs .width) n s low i x → {w g : ℕ} → w ≡ fs .width
+    → g ≡ fs .divisor → FourFit o low g x w
+four-fit {o} {fs} {n} {s} {low} {i} {x} q {w} {g} e d =
+    subst (λ (v : ℕ). FourFit o low g x v) (sym e) (subst (λ (h : ℕ). FourFit o low h x (fs .width)) (sym d) (q .fit))
+
 -- a buffer with these four more
 pub four-more : {o : Order} {fs : Fields} {w n : ℕ} {s : List ℕ} {low i x : ℕ} {d whole l : List ℤ}
     → Fill d 0 whole l i (valuesFrom fs (drop i (numbersIn o w n s)))
-    → Four o fs w n s low i x → {v : ℕ} → v ≡ w → {m : List ℤ} → m ≡ sets l i (fourOf o low (fs .divisor) x v)
+    → Four o fs w n s low i x → {v : ℕ} → v ≡ w → {g : ℕ} → g ≡ fs .divisor → {m : List ℤ} → m ≡ sets l i (fourOf o low g x v)
     → Fill d 0 whole m (i + 4) (valuesFrom fs (drop (i + 4) (numbersIn o w n s)))
-four-more {o} {fs} {w} {n} {s} {low} {i} {x} {d} {whole} {l} f q {v} e {m} h =
-    part-more d 0 whole l i _ f m (i + 4) (fourOf o low (fs .divisor) x w) _ (q .next) (h ∙ ap (λ (k : ℕ). sets l i (fourOf o low (fs .divisor) x k)) e) refl
+four-more {o} {fs} {w} {n} {s} {low} {i} {x} {d} {whole} {l} f q {v} e {g} u {m} h =
+    part-more d 0 whole l i _ f m (i + 4) (fourOf o low (fs .divisor) x w) _ (q .next) (h ∙ ap₂ (λ (k y : ℕ). sets l i (fourOf o low y x k)) e u) refl
+
+-- ---- eight at once
+
+module _ {o : Order} {n : ℕ} {f : Fields} {s : List ℕ} {room w low g : ℕ} (q : Eights o n f s room w low g) where
+  -- a window is within the section
+  pub eights-inside : (i at skip : ℕ) → i + 64 ≤ n → at * 8 + skip ≡ i * w → at + 8 ≤ length s
+  eights-inside i at skip h e =
+      let k : n * w ≡ n * f .width = ap (λ (v : ℕ). n * v) (q .width-is) in
+      window-inside i n w at skip (length s) (q .some) h (omega (arith, k, rules-kept o n f (length s) (q .rules) .bytes)) e
+
+  -- and holds the next four
+  pub eights-four : (i x : ℕ) → i + 4 ≤ n → ((k : ℕ) → k * w + w ≤ 57 → cut o x (k * w) w ≡ packingOf o .fetch s w (i + k))
+      → Four o f (f .width) n s low i x
+  eights-four i x h next =
+      four-at o s (f .width) i x
+      (subst (λ (v : ℕ). (k : ℕ) → k * v + v ≤ 57 → cut o x (k * v) v ≡ packingOf o .fetch s v (i + k)) (q .width-is) next) f n low (q .small) (q .low-is)
+      (omega (arith, q .narrow, q .width-is)) h (q .fit)
+
+  -- a buffer with these and four more
+  pub eight-more : {i x y : ℕ} {d whole l k m : List ℤ} → Fill d 0 whole l i (valuesFrom f (drop i (numbersIn o (f .width) n s)))
+      → Four o f (f .width) n s low i x → Four o f (f .width) n s low (i + 4) y → k ≡ sets l i (fourOf o low g x w)
+      → m ≡ sets k (i + 4) (fourOf o low g y w) → Fill d 0 whole m (i + 8) (valuesFrom f (drop (i + 8) (numbersIn o (f .width) n s)))
+  eight-more {i} {x} {y} {d} {whole} {l} {k} {m} p a b u v =
+      let e : i + 4 + 4 ≡ i + 8 = omega arith in
+      subst (λ (j : ℕ). Fill d 0 whole m j (valuesFrom f (drop j (numbersIn o (f .width) n s)))) e
+      (four-more (four-more p a (q .width-is) (q .step-is) u) b (q .width-is) (q .step-is) v)

@@ -14,8 +14,9 @@ ghost use Rattle.format.specs.Check.{allValues};
 ghost use Rattle.format.specs.Drawn.{drawn};
 ghost use Rattle.answers.specs.Replies.{fieldsOf};
 ghost use Rattle.signed.specs.Sign.{unbiased};
+ghost use Rattle.packings.specs.declared.Order as Od;
 ghost use Rattle.packings.specs.Packings.{packingOf, cut};
-ghost use Rattle.scaled_reader.specs.Stored.{FourFit, fourOf, AllFit, FilledTo};
+ghost use Rattle.scaled_reader.specs.Stored.{FourFit, fourOf, AllFit, FilledTo, Eights};
 use answers::Fetched;
 use answers::Fields;
 use packings::Order;
@@ -85,6 +86,55 @@ fn fill_fours(values: &mut [i64], section: &[u8], order: Order, n: usize, fields
     i
 }
 
+// The same high bit first, eight at a time, which start at a byte: so all shifts are the same in every turn. The fields are for the contract; what
+// is computed with are width, smallest and divisor by themselves, and where the divisor is told as 1, nothing is multiplied.
+fn fill_eights(
+    values: &mut [i64],
+    section: &[u8],
+    n: usize,
+    fields: Fields,
+    w: usize,
+    low: u64,
+    divisor: u64,
+) -> usize
+    requires { ⌜ Eights Od.Order.High n (fieldsOf fields) (now section) (length (now values)) w low divisor ⌝ }
+    ensures { λ r. ⌜ (r ≤ n) × FilledTo Od.Order.High n (fieldsOf fields) (now (section .entry)) (now (values .entry)) (now (values .exit)) r ⌝ }
+{
+    let half = (4 * w) >> 3;
+    let skip = (4 * w) & 7;
+    let mut i: usize = 0;
+    let mut at: usize = 0;
+    while 72 <= n - i {
+        let x = packings::window(section, Order::High, at, 0);
+        let y = packings::window(section, Order::High, at + half, skip);
+        put_four(values, Order::High, i, x, w, low, divisor);
+        put_four(values, Order::High, i + 4, y, w, low, divisor);
+        i += 8;
+        at += w;
+    }
+    i
+}
+
+// The first of the values, packed high bit first, up to the last 72; none for a width that no four of fit a window. Says how many.
+fn fill_high(values: &mut [i64], section: &[u8], n: usize, fields: Fields) -> usize
+    requires { ⌜ (scaled (packingOf Od.Order.High) .fieldsOk n (fieldsOf fields) (length (now section)) ≡ true) × (n ≤ length (now values))
+        × (AllFit Od.Order.High n (fieldsOf fields) (now section)) ⌝ }
+    ensures { λ r. ⌜ (r ≤ n) × FilledTo Od.Order.High n (fieldsOf fields) (now (section .entry)) (now (values .entry)) (now (values .exit)) r ⌝ }
+{
+    let low = signed::biased_of(fields.smallest);
+    let w = fields.width as usize;
+    if w == 0 {
+        return 0;
+    }
+    if 14 < w {
+        return 0;
+    }
+    if fields.divisor == 1 {
+        return fill_eights(values, section, n, fields, w, low, 1);
+    }
+    fill_eights(values, section, n, fields, w, low, fields.divisor)
+}
+
 // The same one by one, for a width at which a window holds the next number wherever in its byte that starts; none for another.
 fn fill_ones(values: &mut [i64], section: &[u8], order: Order, n: usize, fields: Fields) -> usize
     requires { ⌜ (n ≤ maxCount) × (scaled (packingOf order) .fieldsOk n (fieldsOf fields) (length (now section)) ≡ true) × (n ≤ length (now values))
@@ -119,7 +169,10 @@ fn fill_windows(values: &mut [i64], section: &[u8], order: Order, n: usize, fiel
     if 14 < fields.width {
         return fill_ones(values, section, order, n, fields);
     }
-    fill_fours(values, section, order, n, fields)
+    match order {
+        Order::High => fill_high(values, section, n, fields),
+        Order::Low => fill_fours(values, section, order, n, fields),
+    }
 }
 
 // The n values of a section, each of which is there, from the buffer's front on.
@@ -148,7 +201,7 @@ pub fn fill(values: &mut [i64], section: &[u8], order: Order, n: usize, fields: 
 // ---- some of them
 
 // The values of the ordinals from x on, of n, into places `from` to `end`, up to the first that has none, where all have one smallest value,
-// divisor and width: number after number. Says where it noMore.
+// divisor and width: number after number. Says where it stopped.
 pub fn draw(
     values: &mut [i64],
     section: &[u8],

@@ -7,7 +7,7 @@ use Rattle.format.specs.Pairs.{Each, Fits}
 use Rattle.laws.proofs.Fits.{size-fits}
 use Rattle.signed.specs.Sign.{biased, unbiased}
 use Rattle.signed.proofs.Signs.{unbiased-biased, biased-unbiased, biased-le, biased-ge}
-use Rattle.scaling.specs.Scaled.{EndsOf}
+use Rattle.scaling.specs.Scaled.{EndsAt, EndsOf}
 
 -- the lesser of two numbers has the lesser biased form, the greater the greater
 module _ (b : ℕ) (v : ℤ) (f : mag v < 2 ^ 63) where
@@ -26,14 +26,6 @@ module _ (b : ℕ) (v : ℤ) (f : mag v < 2 ^ 63) where
           → cond q v (unbiased b) ≡ unbiased (max b (biased v))
       go true h k = let e : biased v ≡ max b (biased v) = omega (arith, h tt, biased-unbiased b) in sym (unbiased-biased v f) ∙ ap unbiased e
       go false h k = let e : b ≡ max b (biased v) = omega (arith, k tt, biased-unbiased b) in ap unbiased e
-
--- l and h are the ends of the values before i
-pub record EndsAt (vs : List ℤ) (i l h : ℕ) : Type 0 where
-  pub within : i ≤ length vs
-  pub low : leastOf (unbiased l) (drop i vs) ≡ smallest vs
-  pub high : mostOf (unbiased h) (drop i vs) ≡ greatest vs
-  pub order : l ≤ h
-  pub fit : Each Fits (drop i vs) → Each Fits vs
 
 pub ends-first : (vs : List ℤ) (b : ℕ) → 0 < length vs → mag (getD vs 0 (pos 0)) < 2 ^ 63 → b ≡ biased (getD vs 0 (pos 0)) → EndsAt vs 1 b b
 unfolding smallest greatest
@@ -63,6 +55,14 @@ ends-more {vs} {i} {l} {h} p k b f e =
       order = omega (arith, p .order);
       fit = λ t. p .fit (subst (Each Fits) (sym d) (size-fits v f, t));
     }
+
+-- one that is within the ends moves neither
+pub ends-kept : {vs : List ℤ} {i l h : ℕ} → EndsAt vs i l h → i < length vs → (b : ℕ) → mag (getD vs i (pos 0)) < 2 ^ 63
+    → b ≡ biased (getD vs i (pos 0)) → (l ≤ b) × (b ≤ h) → EndsAt vs (i + 1) l h
+ends-kept {vs} {i} {l} {h} p k b f e t =
+    let a : min l b ≡ l = omega (arith, t .0) in
+    let c : max h b ≡ h = omega (arith, t .1) in
+    subst (λ (x : ℕ). EndsAt vs (i + 1) x h) a (subst (λ (y : ℕ). EndsAt vs (i + 1) (min l b) y) c (ends-more p k b f e))
 
 pub ends-done : {vs : List ℤ} {i l h : ℕ} → EndsAt vs i l h → length vs ≤ i → EndsOf vs l h
 unfolding leastOf mostOf

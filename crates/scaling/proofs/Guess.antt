@@ -1,61 +1,35 @@
--- A quotient guessed by products: never too great and at most 1 too small, so what is left decides. Assumes nothing.
-use Rattle.format.specs.Kit.{_≡_, refl, sym, ap, _∙_, _⊎_, ⊎-elim, Bool, true, false, ℕ, _+_, _-_, _*_, _/_, _≤_, _<_, mul-assoc, mul-comm}
-use Rattle.format.specs.Kit.{mul-le-mul, mul-le-mul-right, mul-le-mul-left, add-mul, mul-add, one-mul, le-div-iff-mul-le, div-lt-iff-lt-mul, leb}
-use Rattle.format.specs.Kit.{leb-true, leb-false, le-leb, lt-leb, arith, digits-div}
+-- A quotient guessed by a product, and the room that products have. Assumes nothing.
+use Rattle.format.specs.Kit.{_≡_, refl, sym, ap, _∙_, Bool, true, false, ℕ, _+_, _*_, _/_, _%_, _^_, _≤_, _<_, mul-one, mul-assoc, mul-comm}
+use Rattle.format.specs.Kit.{mul-le-mul, mul-le-mul-right, mul-le-mul-left, le-div-iff-mul-le, div-lt-iff-lt-mul, leb}
+use Rattle.format.specs.Kit.{leb-true, leb-false, le-leb, lt-leb, arith, mul-div-cancel-left}
 use Rattle.format.specs.Values.{gcd}
 use Rattle.laws.proofs.Gcd.{gcd-multiple}
 use Rattle.scaling.specs.Reciprocal.{Reciprocal}
 
-module _ (x m d : ℕ) (p : Reciprocal d m) where
-  -- times the guess, d is within x
-  pub guess-le : x * m / 4294967296 * d ≤ x
-  guess-le =
-      let q : ℕ = x * m / 4294967296 in
-      let b : q * 4294967296 * d ≤ x * m * d = mul-le-mul-right d (omega arith) in
-      let c : x * m * d ≡ x * (m * d) = mul-assoc x m d in
-      let e : x * (m * d) ≤ x * 4294967296 = mul-le-mul-left x (p .product) in
-      let f : q * 4294967296 * d ≡ q * d * 4294967296 =
-      mul-assoc q 4294967296 d ∙ ap (λ (y : ℕ). q * y) (mul-comm 4294967296 d) ∙ sym (mul-assoc q d 4294967296) in
-      omega arith
-
-  pub guess-fits : x < 4294967296 → x * m < 18446744073709551616
-  guess-fits l = omega (arith, mul-le-mul-left x (p .small))
-
-  -- and with two more, beyond it
-  pub guess-near : x < 4294967296 → 0 < d → x < x * m / 4294967296 * d + (d + d)
-  guess-near l h =
-      let q : ℕ = x * m / 4294967296 in
-      let a : (x * m + 1) * d ≤ (q + 1) * 4294967296 * d = mul-le-mul-right d (omega arith) in
-      let b : x * 4294967297 ≤ x * (m * d + d) = mul-le-mul-left x (omega (arith, p .near h)) in
-      let c : x * d ≤ 4294967295 * d = mul-le-mul-right d (omega arith) in
-      omega (
-        arith,
-        add-mul (x * m) 1 d,
-        add-mul q 1 d,
-        one-mul d,
-        mul-add x (m * d) d,
-        mul-assoc x m d,
-        mul-assoc (q + 1) 4294967296 d ∙ ap (λ (y : ℕ). (q + 1) * y) (mul-comm 4294967296 d) ∙ sym (mul-assoc (q + 1) d 4294967296),
-      )
+-- d times a guess
+pub guess-fits : (x m d : ℕ) → Reciprocal d m → x % 2 ^ 32 * (m % 2 ^ 32) / 2 ^ 32 * d < 2 ^ 64
+guess-fits x m d p =
+    let y : ℕ = x % 4294967296 in
+    let k : ℕ = m % 4294967296 in
+    let q : ℕ = y * k / 4294967296 in
+    let a : q * 4294967296 * d ≤ y * k * d = mul-le-mul-right d (omega arith) in
+    let b : k * d ≤ m * d = mul-le-mul-right d (omega arith) in
+    let c : y * (k * d) ≤ y * 8589934592 = mul-le-mul-left y (omega (arith, p .product)) in
+    let e : y * k * d ≡ y * (k * d) = mul-assoc y k d in
+    let f : q * 4294967296 * d ≡ q * d * 4294967296 =
+    mul-assoc q 4294967296 d ∙ ap (λ (z : ℕ). q * z) (mul-comm 4294967296 d) ∙ sym (mul-assoc q d 4294967296) in
+    omega arith
 
 pub reciprocal-zero : Reciprocal 0 0
-reciprocal-zero = record { product = omega arith; small = omega arith; near = λ h. absurd (omega arith) }
+reciprocal-zero = record { product = omega arith }
 
--- x is q times d, and less than d more
-pub over-is : (x d q r : ℕ) → x ≡ q * d + r → r < d → q ≡ x / d
-over-is x d q r e l = sym (ap (λ (y : ℕ). y / d) e ∙ digits-div q l)
+-- 1 is what it makes with any number
+pub gcd-of-one : (g x : ℕ) → g ≡ 1 → 1 ≡ gcd g x
+gcd-of-one g x e = gcd-multiple 1 x x (sym (mul-one x)) ∙ ap (λ (h : ℕ). gcd h x) (sym e)
 
-pub next-over : (x d q r : ℕ) → x ≡ q * d + (d + r) → r < d → q + 1 ≡ x / d
-next-over x d q r e l =
-    over-is x d (q + 1) r (let t : (q + 1) * d ≡ q * d + 1 * d = add-mul q 1 d in let o : 1 * d ≡ d = one-mul d in omega arith) l
-
-gcd-of-next : (g x q : ℕ) → x ≡ q * g + g → g ≡ gcd g x
-gcd-of-next g x q e =
-    gcd-multiple g x (q + 1) (let t : (q + 1) * g ≡ q * g + 1 * g = add-mul q 1 g in let o : 1 * g ≡ g = one-mul g in omega arith)
-
--- what is left is 0, or g
-pub gcd-of-left : (g x q r : ℕ) → q * g ≤ x → (r ≡ x - q * g) ⊎ (r + g ≡ x - q * g) → r ≡ 0 → g ≡ gcd g x
-gcd-of-left g x q r h s z = ⊎-elim (λ e. gcd-multiple g x q (omega arith)) (λ e. gcd-of-next g x q (omega arith)) s
+-- a guess that is the quotient
+pub guess-is : (q d x : ℕ) → 0 < d → q * d ≡ x → q ≡ x / d
+guess-is q d x p e = sym (ap (λ (y : ℕ). y / d) (sym e ∙ mul-comm q d) ∙ mul-div-cancel-left q p)
 
 -- ---- a product's room
 

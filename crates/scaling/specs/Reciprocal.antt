@@ -1,8 +1,6 @@
--- Division by two products. Assumes nothing.
-use Rattle.format.specs.Kit.{ℕ, _+_, _*_, _^_, _≤_, _<_}
+-- Division by a product and a test. Assumes nothing.
+use Rattle.format.specs.Kit.{ℕ, _*_, _^_, _≤_}
 
--- m is 2^32 / d rounded down, so that x * m / 2^32 is never more than x / d, and for an x below 2^32 never more than 1 less; 0 if d is 0
+-- m is the least number above 2^32 / d, or 0: so d times a guess by m cannot wrap. That the guess is the quotient is tested each time.
 pub record Reciprocal (d m : ℕ) : Type 0 where
-  pub product : m * d ≤ 2 ^ 32
-  pub small : m ≤ 2 ^ 32
-  pub near : 0 < d → 2 ^ 32 < m * d + d
+  pub product : m * d ≤ 2 ^ 33

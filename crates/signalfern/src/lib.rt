@@ -18,12 +18,17 @@ ghost use Rattle.format.specs.PairAt.{pairAt, pairAtIn};
 ghost use Rattle.format.specs.FirstBetween.{firstBetween, firstBetweenIn};
 ghost use Rattle.format.specs.BetweenFrom.{firstBetweenFrom, firstBetweenFromIn};
 ghost use Rattle.format.specs.Layered.{Layer, ofLayer, lookUpLayered, lookUpLayeredIn, layeredPart, IsPart};
+ghost use Rattle.format.specs.LayeredPage.{layeredPage, layeredPageIn, layeredReply, layeredAfter};
+ghost use Rattle.format.specs.LayeredPage.{layeredOrdinal, layeredValue, layeredKind, layeredColumn};
+ghost use Rattle.format.specs.LayeredReading.{readLayered, readLayeredIn, layeredReadReply, layeredReadAfter};
+ghost use Rattle.format.specs.LayeredReading.{pairId, pairValue, pairColumn};
 ghost use Rattle.format.specs.SetBytes.{setWrite};
 ghost use Rattle.format.specs.SetCalls.{setCheck, setFind};
 ghost use Rattle.format.specs.Judge.{judgeSection};
 ghost use Rattle.answers.specs.Replies.{replyOf, answerOf, candidateOf, readoutOf, betweenOf, memberOf, Probed, orderOf, judgementOf};
 ghost use Rattle.column.specs.Opened.{columnOf};
 ghost use Rattle.layered.specs.Answers.{layeredOf, wordsIn, partOf};
+ghost use Rattle.layered.specs.Answers.{layeredReplyOf, layeredReadoutOf};
 use answers::Answer;
 use answers::Between;
 use answers::ByteOrder;
@@ -36,6 +41,8 @@ use answers::Readout;
 use answers::Reply;
 use column::Column;
 use layered::Layered;
+use layered::LayeredReadout;
+use layered::LayeredReply;
 use layered::Part;
 
 // Writes the column of the pairs (ids, values) in edition 1 to 4, by its number, at rank power `power` into `out` and hands back its byte
@@ -310,6 +317,184 @@ pub fn layered_part(machine: &[u8], correction: &[u8], id: u32) -> Part
     ensures { λ r. ⌜ partOf r ≡ layeredPart editions (now (machine .entry)) (now (correction .entry)) id ⌝ }
 {
     layered::layered_part(machine, correction, id)
+}
+
+// Looks a page of ids up in both columns (no request of document 02: docs/DECISIONS.md), each header opened once: into place i of each list what
+// `look_up_layered` answers for id i, with ordinal 0 and value 0 where the id is absent (kind 1) or its look-up is refused (its refusal number). Found and
+// refused places name their column (0 the machine column, 1 the correction); an absent one holds 0. Hands back the sums of words for each column
+// apart, modulo 2^64. Where a list is shorter than the ids, 12 with their count, before a byte is read or written; places after the ids stay.
+pub fn look_up_layered_page(
+    machine: &[u8],
+    correction: &[u8],
+    ids: &[u32],
+    ordinals: &mut [u64],
+    values: &mut [i64],
+    kinds: &mut [u8],
+    columns: &mut [u8],
+) -> LayeredReply
+    ensures replies { λ r.
+        ⌜ layeredReplyOf r
+        ≡ layeredReply
+        (layeredPage editions (now (machine .entry)) (now (correction .entry)) (now (ids .entry)) (length (now (ordinals .entry)))
+        (length (now (values .entry))) (length (now (kinds .entry))) (length (now (columns .entry)))) ⌝ }
+    ensures ordinals_placed { λ _.
+        ⌜ now (ordinals .exit)
+        ≡ layeredAfter layeredOrdinal
+        (layeredPage editions (now (machine .entry)) (now (correction .entry)) (now (ids .entry)) (length (now (ordinals .entry)))
+        (length (now (values .entry))) (length (now (kinds .entry))) (length (now (columns .entry))))
+        (now (ordinals .entry)) ⌝ }
+    ensures values_placed { λ _.
+        ⌜ now (values .exit)
+        ≡ layeredAfter layeredValue
+        (layeredPage editions (now (machine .entry)) (now (correction .entry)) (now (ids .entry)) (length (now (ordinals .entry)))
+        (length (now (values .entry))) (length (now (kinds .entry))) (length (now (columns .entry))))
+        (now (values .entry)) ⌝ }
+    ensures kinds_placed { λ _.
+        ⌜ now (kinds .exit)
+        ≡ layeredAfter layeredKind
+        (layeredPage editions (now (machine .entry)) (now (correction .entry)) (now (ids .entry)) (length (now (ordinals .entry)))
+        (length (now (values .entry))) (length (now (kinds .entry))) (length (now (columns .entry))))
+        (now (kinds .entry)) ⌝ }
+    ensures columns_placed { λ _.
+        ⌜ now (columns .exit)
+        ≡ layeredAfter layeredColumn
+        (layeredPage editions (now (machine .entry)) (now (correction .entry)) (now (ids .entry)) (length (now (ordinals .entry)))
+        (length (now (values .entry))) (length (now (kinds .entry))) (length (now (columns .entry))))
+        (now (columns .entry)) ⌝ }
+{
+    layered_page::look_up_layered_page(machine, correction, ids, ordinals, values, kinds, columns)
+}
+
+// The same from two columns that `Column::open` gave for these bytes. Any other numbers in their place are safe, as in `look_up_in`.
+pub fn look_up_layered_page_in(
+    machine_column: Column,
+    machine: &[u8],
+    correction_column: Column,
+    correction: &[u8],
+    ids: &[u32],
+    ordinals: &mut [u64],
+    values: &mut [i64],
+    kinds: &mut [u8],
+    columns: &mut [u8],
+) -> LayeredReply
+    ensures replies { λ r.
+        ⌜ layeredReplyOf r
+        ≡ layeredReply
+        (layeredPageIn (now (machine .entry)) (columnOf «machine_column») (now (correction .entry)) (columnOf «correction_column») (now (ids .entry))
+        (length (now (ordinals .entry))) (length (now (values .entry))) (length (now (kinds .entry))) (length (now (columns .entry)))) ⌝ }
+    ensures ordinals_placed { λ _.
+        ⌜ now (ordinals .exit)
+        ≡ layeredAfter layeredOrdinal
+        (layeredPageIn (now (machine .entry)) (columnOf «machine_column») (now (correction .entry)) (columnOf «correction_column») (now (ids .entry))
+        (length (now (ordinals .entry))) (length (now (values .entry))) (length (now (kinds .entry))) (length (now (columns .entry))))
+        (now (ordinals .entry)) ⌝ }
+    ensures values_placed { λ _.
+        ⌜ now (values .exit)
+        ≡ layeredAfter layeredValue
+        (layeredPageIn (now (machine .entry)) (columnOf «machine_column») (now (correction .entry)) (columnOf «correction_column») (now (ids .entry))
+        (length (now (ordinals .entry))) (length (now (values .entry))) (length (now (kinds .entry))) (length (now (columns .entry))))
+        (now (values .entry)) ⌝ }
+    ensures kinds_placed { λ _.
+        ⌜ now (kinds .exit)
+        ≡ layeredAfter layeredKind
+        (layeredPageIn (now (machine .entry)) (columnOf «machine_column») (now (correction .entry)) (columnOf «correction_column») (now (ids .entry))
+        (length (now (ordinals .entry))) (length (now (values .entry))) (length (now (kinds .entry))) (length (now (columns .entry))))
+        (now (kinds .entry)) ⌝ }
+    ensures columns_placed { λ _.
+        ⌜ now (columns .exit)
+        ≡ layeredAfter layeredColumn
+        (layeredPageIn (now (machine .entry)) (columnOf «machine_column») (now (correction .entry)) (columnOf «correction_column») (now (ids .entry))
+        (length (now (ordinals .entry))) (length (now (values .entry))) (length (now (kinds .entry))) (length (now (columns .entry))))
+        (now (columns .entry)) ⌝ }
+{
+    layered_page::look_up_layered_page_in(
+        machine_column,
+        machine,
+        correction_column,
+        correction,
+        ids,
+        ordinals,
+        values,
+        kinds,
+        columns,
+    )
+}
+
+// The pairs of both columns from an id on (no request of document 02: docs/DECISIONS.md), in the order of ids, into the first places of three lists:
+// in each place the smaller of the two columns' next candidates, the correction's where both have the id, and the number of its column (0 the
+// machine column, 1 the correction), until neither has one, a list is full, or the next candidate of either would be refused. Hands back how many
+// pairs, and whether none is left. Refused, by the column that is named, only where the first step is: 14, then 7 to 11 and 15 by the correction, then
+// 7 to 11 and 15 by the machine column; then nothing is written. Places after the pairs stay.
+pub fn read_layered_from(
+    machine: &[u8],
+    correction: &[u8],
+    id: u32,
+    ids: &mut [u32],
+    values: &mut [i64],
+    columns: &mut [u8],
+) -> LayeredReadout
+    ensures replies { λ r.
+        ⌜ layeredReadoutOf r
+        ≡ layeredReadReply (readLayered editions (now (machine .entry)) (now (correction .entry)) id
+        (min (length (now (columns .entry))) (min (length (now (ids .entry))) (length (now (values .entry)))))) ⌝ }
+    ensures ids_placed { λ _.
+        ⌜ now (ids .exit)
+        ≡ layeredReadAfter pairId (readLayered editions (now (machine .entry)) (now (correction .entry)) id
+        (min (length (now (columns .entry))) (min (length (now (ids .entry))) (length (now (values .entry)))))) (now (ids .entry)) ⌝ }
+    ensures values_placed { λ _.
+        ⌜ now (values .exit)
+        ≡ layeredReadAfter pairValue (readLayered editions (now (machine .entry)) (now (correction .entry)) id
+        (min (length (now (columns .entry))) (min (length (now (ids .entry))) (length (now (values .entry)))))) (now (values .entry)) ⌝ }
+    ensures columns_placed { λ _.
+        ⌜ now (columns .exit)
+        ≡ layeredReadAfter pairColumn (readLayered editions (now (machine .entry)) (now (correction .entry)) id
+        (min (length (now (columns .entry))) (min (length (now (ids .entry))) (length (now (values .entry)))))) (now (columns .entry)) ⌝ }
+{
+    layered_reading::read_layered_from(machine, correction, id, ids, values, columns)
+}
+
+// The same from two columns that `Column::open` gave for these bytes. Any other numbers in their place are safe, as in `look_up_in`: 10 and 11 in
+// the place of 7 to 11.
+pub fn read_layered_from_in(
+    machine_column: Column,
+    machine: &[u8],
+    correction_column: Column,
+    correction: &[u8],
+    id: u32,
+    ids: &mut [u32],
+    values: &mut [i64],
+    columns: &mut [u8],
+) -> LayeredReadout
+    ensures replies { λ r.
+        ⌜ layeredReadoutOf r
+        ≡ layeredReadReply (readLayeredIn (now (machine .entry)) (columnOf «machine_column») (now (correction .entry)) (columnOf «correction_column») id
+        (min (length (now (columns .entry))) (min (length (now (ids .entry))) (length (now (values .entry)))))) ⌝ }
+    ensures ids_placed { λ _.
+        ⌜ now (ids .exit)
+        ≡ layeredReadAfter pairId
+        (readLayeredIn (now (machine .entry)) (columnOf «machine_column») (now (correction .entry)) (columnOf «correction_column») id
+        (min (length (now (columns .entry))) (min (length (now (ids .entry))) (length (now (values .entry)))))) (now (ids .entry)) ⌝ }
+    ensures values_placed { λ _.
+        ⌜ now (values .exit)
+        ≡ layeredReadAfter pairValue
+        (readLayeredIn (now (machine .entry)) (columnOf «machine_column») (now (correction .entry)) (columnOf «correction_column») id
+        (min (length (now (columns .entry))) (min (length (now (ids .entry))) (length (now (values .entry)))))) (now (values .entry)) ⌝ }
+    ensures columns_placed { λ _.
+        ⌜ now (columns .exit)
+        ≡ layeredReadAfter pairColumn
+        (readLayeredIn (now (machine .entry)) (columnOf «machine_column») (now (correction .entry)) (columnOf «correction_column») id
+        (min (length (now (columns .entry))) (min (length (now (ids .entry))) (length (now (values .entry)))))) (now (columns .entry)) ⌝ }
+{
+    layered_reading::read_layered_from_in(
+        machine_column,
+        machine,
+        correction_column,
+        correction,
+        id,
+        ids,
+        values,
+        columns,
+    )
 }
 
 // ---- the in-memory set's sibling on disk (document 02, [14]): ids alone, each block listed, its missing ones listed, or a bitmap

@@ -10,7 +10,7 @@ ghost use lib.ListN.{length, drop};
 ghost use lib.Seq.{sets};
 ghost use Rattle.format.specs.Limits.{maxCount, maxWidth};
 ghost use Rattle.format.specs.Pairs.{Each, Fits};
-ghost use Rattle.format.specs.Editions.{plain, table, codec};
+ghost use Rattle.format.specs.Editions.{plain, runs, table, codec};
 ghost use Rattle.format.specs.Check.{allValues};
 ghost use Rattle.format.specs.Drawn.{drawn};
 ghost use Rattle.scaled_values.specs.Slots.{Stands, slotNumber};
@@ -246,7 +246,29 @@ fn draw_each(
     i
 }
 
-// The same by the edition: in runs by step 7 for each.
+// The same in runs: those of x's own run number after number, and what comes after them by step 7 for each.
+fn draw_runs(
+    values: &mut [i64],
+    section: &[u8],
+    n: u64,
+    fields: Fields,
+    x: u64,
+    from: usize,
+    end: usize,
+) -> usize
+    requires { ⌜ (n ≤ maxCount) × (codec runs .fieldsOk n (fieldsOf fields) (length (now section)) ≡ true) × (x + (end - from) ≤ n)
+        × (from ≤ end) × (end ≤ length (now values)) ⌝ }
+    ensures { λ r.
+        ⌜ (r ≡ from + length (drawn (codec runs .value n (fieldsOf fields) (now (section .entry))) (end - from) x))
+        × (now (values .exit)
+        ≡ sets (now (values .entry)) from (drawn (codec runs .value n (fieldsOf fields) (now (section .entry))) (end - from) x)) ⌝ }
+{
+    let i = run_reader::draw(values, section, n as usize, fields, x as usize, from, end);
+    let o = x + ((i - from) as u64);
+    draw_each(values, section, Edition::Runs, n, fields, o, i, end)
+}
+
+// The same by the edition.
 pub fn draw(
     values: &mut [i64],
     section: &[u8],
@@ -285,7 +307,7 @@ pub fn draw(
             from,
             end,
         ),
-        Edition::Runs => draw_each(values, section, edition, n, fields, x, from, end),
+        Edition::Runs => draw_runs(values, section, n, fields, x, from, end),
         Edition::Table => table_values::draw(
             values,
             section,

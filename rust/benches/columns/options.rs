@@ -45,7 +45,7 @@ pub enum Rows {
     Next,
     /// Pairs from an id on and by their ordinals, beside what else gives the same.
     Walks,
-    /// The look-up with a correction on top, beside those that it is made of.
+    /// The look-up with a correction on top, a page of them and the reading of both, beside what each is made of.
     Layered,
     /// A page of ids in one call, beside single look-ups and beside the reference's.
     Pages,

@@ -9,6 +9,8 @@ mod header;
 mod ids;
 mod judge;
 mod layered;
+mod layered_page;
+mod layered_reading;
 mod layout;
 mod look_up;
 mod lucene;
@@ -27,6 +29,8 @@ pub use judge::{judge_section, Judgement};
 pub use layered::{
     layered_values, look_up_layered, look_up_layered_in, Layer, LayeredAnswer, LayeredLook,
 };
+pub use layered_page::{look_up_layered_page, look_up_layered_page_in};
+pub use layered_reading::{read_layered_from, read_layered_from_in};
 pub use look_up::{look_up, look_up_in};
 pub use next::{next, next_by_each_id, next_in, next_listed, Candidate, Next};
 pub use page::look_up_page;

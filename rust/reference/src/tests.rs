@@ -3,6 +3,7 @@
 
 mod divisor;
 mod editions;
+mod in_layers;
 mod judge;
 mod layered;
 mod next;

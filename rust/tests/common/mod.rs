@@ -2,8 +2,10 @@
 //! beside the reference.
 #![allow(dead_code, reason = "neither program uses all of it")]
 
+pub mod by_c;
 pub mod changes;
 pub mod damage;
+pub mod in_layers;
 pub mod layers;
 pub mod listed;
 pub mod pages;

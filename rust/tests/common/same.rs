@@ -408,7 +408,7 @@ pub fn first_between_in(
     result
 }
 
-fn to_reference(header: Header) -> reference::Column {
+pub fn to_reference(header: Header) -> reference::Column {
     let smallest = i128::from(header.smallest);
     let smallest_number = if smallest < 0 {
         -2 * smallest - 1

@@ -489,6 +489,17 @@ static int whole_answers(void)
             WRITES(signalfern_layered, signalfern_look_up_layered_to(bytes, len - n, bytes, len, id, answer));
             WRITES(signalfern_layered, signalfern_look_up_layered_in_to(&column, bytes, len, &column, bytes, len - n, id, answer));
             WRITES(signalfern_part, signalfern_layered_values_to(bytes, len - n, bytes, len, id, answer));
+            uint32_t place;
+            uint64_t ordinal;
+            int64_t score;
+            uint8_t kind, by;
+            WRITES(signalfern_layered_page, signalfern_look_up_layered_page_to(bytes, len - n, bytes, len, &id, 1, &ordinal, 1, &score, 1,
+                   &kind, n, &by, 1, answer));
+            WRITES(signalfern_layered_page, signalfern_look_up_layered_page_in_to(&column, bytes, len, &column, bytes, len - n, &id, 1,
+                   &ordinal, n, &score, 1, &kind, 1, &by, 1, answer));
+            WRITES(signalfern_layered_readout, signalfern_read_layered_from_to(bytes, len - n, bytes, len, id, &place, 1, &score, n, &by, 1, answer));
+            WRITES(signalfern_layered_readout, signalfern_read_layered_from_in_to(&column, bytes, len, &column, bytes, len - n, id, &place,
+                   n, &score, 1, &by, 1, answer));
             WRITES(signalfern_member, signalfern_set_find_to(set, set_len - n, id, answer));
         }
     }
@@ -532,6 +543,63 @@ static int corrections(void)
     PROMISE(same_part(signalfern_layered_values(m, m_len, c, c_len, 4), SIGNALFERN_MACHINE, m_len - 1, 1));
     PROMISE(same_part(signalfern_layered_values(m, m_len, c, c_len, 6), SIGNALFERN_CORRECTION, c_len - 1, 1));
     PROMISE(same_part(signalfern_layered_values(m, m_len, c, c_len, 5), SIGNALFERN_MACHINE, 0, 0));
+    return 0;
+}
+
+static int same_layered_page(signalfern_layered_page page, uint64_t refusal, uint64_t number)
+{
+    return page.refusal == refusal && page.number == number && page.machine_words == 0 && page.correction_words == 0;
+}
+
+static int same_layered_readout(signalfern_layered_readout r, uint64_t kind, uint64_t column, uint64_t count)
+{
+    return r.kind == kind && r.number == 0 && r.column == column && r.count == count;
+}
+
+/* Many ids at once, and pairs from an id on. */
+static int corrections_at_once(void)
+{
+    PROMISE(sizeof(signalfern_layered_page) == 32 && offsetof(signalfern_layered_page, correction_words) == 24);
+    PROMISE(sizeof(signalfern_layered_readout) == 32 && offsetof(signalfern_layered_readout, count) == 24);
+    uint8_t m[64], c[64];
+    size_t c_len, m_len = layers(m, c, sizeof m, &c_len);
+    signalfern_column x = signalfern_open(m, m_len), y = signalfern_open(c, c_len);
+    const uint32_t asked[] = {8, 5, 6, 4, SIGNALFERN_MAX_ID + 1};
+    uint64_t ordinals[6] = {91, 91, 91, 91, 91, 91};
+    int64_t scores[6] = {91, 91, 91, 91, 91, 91};
+    uint8_t kinds[6] = {91, 91, 91, 91, 91, 91}, columns[6] = {91, 91, 91, 91, 91, 91};
+    /* A list too short: nothing is written, and no byte read. */
+    PROMISE(same_layered_page(signalfern_look_up_layered_page(NULL, 0, NULL, 0, asked, 5, ordinals, 6, scores, 6, kinds, 6, columns, 4), SIGNALFERN_BUFFER, 5));
+    PROMISE(same_layered_page(signalfern_look_up_layered_page_in(x, m, m_len, y, c, c_len, asked, 5, ordinals, 4, scores, 6, kinds, 6,
+            columns, 6), SIGNALFERN_BUFFER, 5));
+    PROMISE(ordinals[0] == 91 && scores[0] == 91 && kinds[0] == 91 && columns[0] == 91);
+    PROMISE(same_layered_page(signalfern_look_up_layered_page(NULL, 0, NULL, 0, NULL, 0, NULL, 0, NULL, 0, NULL, 0, NULL, 0), 0, 0));
+    PROMISE(same_layered_page(signalfern_look_up_layered_page(m, m_len, c, c_len, asked, 5, ordinals, 6, scores, 6, kinds, 6, columns, 6), 0, 5));
+    const uint64_t its_ordinals[] = {1, 0, 0, 0, 0, 91};
+    const int64_t its_scores[] = {5, 0, -3, 10, 0, 91};
+    const uint8_t its_kinds[] = {0, 1, 0, 0, 14, 91}, its_columns[] = {1, 0, 1, 0, 1, 91};
+    PROMISE(memcmp(ordinals, its_ordinals, sizeof ordinals) == 0 && memcmp(scores, its_scores, sizeof scores) == 0);
+    PROMISE(memcmp(kinds, its_kinds, sizeof kinds) == 0 && memcmp(columns, its_columns, sizeof columns) == 0);
+    /* The machine column is not read where the correction holds each id. */
+    PROMISE(same_layered_page(signalfern_look_up_layered_page_in(x, NULL, 0, y, c, c_len, asked + 2, 1, ordinals, 6, scores, 6, kinds, 6, columns, 6), 0, 1));
+    PROMISE(kinds[0] == SIGNALFERN_FOUND && columns[0] == SIGNALFERN_CORRECTION && scores[0] == -3);
+
+    uint32_t ids[4] = {91, 91, 91, 91};
+    scores[0] = columns[0] = 91;
+    PROMISE(same_layered_readout(signalfern_read_layered_from(m, m_len, c, c_len, SIGNALFERN_MAX_ID + 1, ids, 4, scores, 4, columns, 4),
+            SIGNALFERN_ID, SIGNALFERN_CORRECTION, 0));
+    PROMISE(same_layered_readout(signalfern_read_layered_from(NULL, 0, c, c_len, 6, ids, 4, scores, 4, columns, 4), SIGNALFERN_SHORT, SIGNALFERN_MACHINE, 0));
+    PROMISE(same_layered_readout(signalfern_read_layered_from_in(x, m, m_len, y, c, c_len - 1, 4, ids, 4, scores, 4, columns, 4),
+            SIGNALFERN_LENGTH, SIGNALFERN_CORRECTION, 0));
+    PROMISE(ids[0] == 91 && scores[0] == 91 && columns[0] == 91);
+    /* No places: whether a listed id is left. */
+    PROMISE(same_layered_readout(signalfern_read_layered_from(m, m_len, c, c_len, 8, NULL, 0, NULL, 0, NULL, 0), SIGNALFERN_MORE, 0, 0));
+    PROMISE(same_layered_readout(signalfern_read_layered_from_in(x, m, m_len, y, c, c_len, 9, ids, 4, scores, 4, NULL, 0), SIGNALFERN_ENDED, 0, 0));
+    PROMISE(same_layered_readout(signalfern_read_layered_from(m, m_len, c, c_len, 0, ids, 4, scores, 4, columns, 2), SIGNALFERN_MORE, 0, 2));
+    PROMISE(ids[0] == 4 && scores[0] == 10 && columns[0] == 0 && ids[1] == 6 && scores[1] == -3 && columns[1] == 1);
+    PROMISE(ids[2] == 91 && columns[2] == its_columns[2]);
+    PROMISE(same_layered_readout(signalfern_read_layered_from_in(x, m, m_len, y, c, c_len, 7, ids, 4, scores, 4, columns, 4), SIGNALFERN_ENDED, 0, 1));
+    PROMISE(ids[0] == 8 && scores[0] == 5 && columns[0] == 1 && ids[1] == 6);
     return 0;
 }
 
@@ -660,6 +728,6 @@ int main(void)
     refused.refusal = SIGNALFERN_LENGTH;
     PROMISE(memcmp(&column, &refused, sizeof column) == 0);
     PROMISE(same_answer(signalfern_look_up_in(column, out, len, 4), SIGNALFERN_HEADER, 0, 0, 0, 0));
-    return editions() || plans() || pages() || walks() || next_candidates() || between() || corrections() || refused_columns() ||
-           sets() || sections() || whole_answers();
+    return editions() || plans() || pages() || walks() || next_candidates() || between() || corrections() || corrections_at_once() ||
+           refused_columns() || sets() || sections() || whole_answers();
 }

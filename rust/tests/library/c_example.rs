@@ -59,6 +59,13 @@ id 2: value -1, ordinal 0 of the correction
 id 5: in neither
 id 7: the correction is refused: the header tells of more or fewer bytes than there are: the column is cut off or \
 something follows it
+page: id 7: value 135 by the machine
+page: id 2: value -1 by the correction
+page: id 5: in neither
+page: id 2147352576: ID
+pair: id 0, value 150 by the machine
+pair: id 2, value -1 by the correction
+pair: id 7, value 135 by the machine
 ";
     assert_eq!(printed, expected);
 }

@@ -240,7 +240,7 @@ fn pairs_are_left_out_by_their_ordinals() {
             loop {
                 let n = match random.below(4) {
                     0 => random.below(count + 2),
-                    1 => random.pick(&[0, 1, 63, 64, 65, 127, 128, 129, 255, 256, 257]),
+                    1 => random.pick(&[0, 1, 3, 4, 5, 11, 12, 63, 64, 255, 256, 257, 1023, 4095, 4096]),
                     _ => random.below(40),
                 };
                 let pair = list.nth(n);
@@ -255,6 +255,50 @@ fn pairs_are_left_out_by_their_ordinals() {
             let (skip, step) = (random.below(count + 9), 1 + random.below(2000));
             let walk = column.iter_from(from).skip(skip).step_by(step);
             assert!(walk.eq(listed.pairs(index).skip(skip).step_by(step)));
+        }
+    }
+}
+
+/// The walk reads 4 pairs, then 8, and so on up to 4,096 with a call: whatever is asked where a reading ends is
+/// as the list has it, and a walk goes on from its copy.
+#[test]
+fn readings_that_grow() {
+    let mut random = Random::new(46);
+    let mut borders = vec![0];
+    while borders.len() < 12 {
+        borders.push(2 * borders[borders.len() - 1] + 4);
+    }
+    borders.extend([8188 + 4096, 8188 + 8192]);
+    for blocks in [
+        &[(0, 1), (1, 5), (2, 6), (3, 7), (4, 20), (5, 4095), (9, 20_000)][..],
+        &[(7, 4096), (8, 65_536)],
+        &[(0, 9000), (1, 4096), (2, 4097), (3, 4095)],
+    ] {
+        for (edition, power) in EDITIONS.into_iter().flat_map(|it| POWERS.map(|p| (it, p))) {
+            let ids = ids_of(&mut random, blocks);
+            let values = values_of_width(&mut random, ids.len(), 7);
+            let listed = Listed::new(ids, values, edition, power);
+            let column = same::walk(&listed.bytes).unwrap();
+            let count = listed.ids.len();
+            let mut walk = column.iter();
+            let mut taken = 0;
+            for &border in borders.iter().filter(|&&border| border + 2 < count) {
+                for at in [border.saturating_sub(1), border, border + 1] {
+                    while taken < at {
+                        assert_eq!(walk.next(), listed.pairs(taken).next(), "pair {taken}");
+                        taken += 1;
+                    }
+                    assert_eq!(walk.len(), count - taken);
+                    let mut copy = walk.clone();
+                    assert_eq!(copy.next(), listed.pairs(taken).next());
+                    assert_eq!(copy.nth(9), listed.pairs(taken + 1).nth(9));
+                    let end = listed.ids[taken];
+                    assert!(column.range(..end).eq(listed.pairs(0).take(taken)));
+                    assert!(column.range(..=end).eq(listed.pairs(0).take(taken + 1)));
+                    assert!(column.iter_from(end).take(30).eq(listed.pairs(taken).take(30)));
+                }
+            }
+            assert!(walk.eq(listed.pairs(taken)));
         }
     }
 }

@@ -3,8 +3,11 @@
 use std::fs;
 use std::path::Path;
 
+use crate::common::by_c::{look_up_layered_page_in, read_layered_from_in, words};
 use signalfern::{ByteOrder, Cursor, Edition, Fault, Layer, Reason, Refusal, Section};
-use signalfern_vectors::{answer, Header, Json, Judged, Layered, Look, Maker, Part, Refused};
+use signalfern_vectors::{
+    answer, Header, Json, Judged, Layered, Lists, Look, Maker, Part, Places, Refused,
+};
 
 /// The Rust package's calls, which are the proved ones.
 struct Library;
@@ -304,6 +307,33 @@ impl Maker for Library {
         }
     }
 
+    fn look_up_layered_page(
+        &self,
+        machine: &[u8],
+        correction: &[u8],
+        ids: &[u32],
+        lists: Lists,
+    ) -> Result<(u64, u64), Refused> {
+        let (ordinals, values) = (lists.ordinals, lists.values);
+        let (kinds, columns) = (lists.kinds, lists.columns);
+        signalfern::look_up_layered_page(machine, correction, ids, ordinals, values, kinds, columns)
+            .map(|page| (page.words(Layer::Machine), page.words(Layer::Correction)))
+            .map_err(refused)
+    }
+
+    fn read_layered_from(
+        &self,
+        machine: &[u8],
+        correction: &[u8],
+        id: u32,
+        places: Places,
+    ) -> Result<(u64, bool), (bool, Refused)> {
+        let (ids, values, columns) = (places.ids, places.values, places.columns);
+        signalfern::read_layered_from(machine, correction, id, ids, values, columns)
+            .map(|it| (it.count as u64, it.ended))
+            .map_err(|it| (it.layer == Layer::Correction, refused(it.refusal)))
+    }
+
     fn set_write(&self, ids: &[u32], out: &mut [u8]) -> Result<u64, Refused> {
         count(signalfern::set_write(ids, out))
     }
@@ -417,6 +447,46 @@ impl Maker for Library {
         id: u32,
     ) -> Result<Layered, (bool, Refused)> {
         by_c::look_up_layered_in(machine, correction, id)
+    }
+
+    fn look_up_layered_page_in(
+        &self,
+        machine: (&Header, &[u8]),
+        correction: (&Header, &[u8]),
+        ids: &[u32],
+        lists: Lists,
+    ) -> Result<(u64, u64), Refused> {
+        let (x, y) = (words(&header(machine.0)), words(&header(correction.0)));
+        let reply = look_up_layered_page_in(
+            (&x, machine.1),
+            (&y, correction.1),
+            ids,
+            lists.ordinals,
+            lists.values,
+            lists.kinds,
+            lists.columns,
+        );
+        match reply {
+            [0, number, machine, correction] if number == ids.len() as u64 => {
+                Ok((machine, correction))
+            }
+            [refusal, number, _, _] => Err((refusal, number)),
+        }
+    }
+
+    fn read_layered_from_in(
+        &self,
+        machine: (&Header, &[u8]),
+        correction: (&Header, &[u8]),
+        id: u32,
+        places: Places,
+    ) -> Result<(u64, bool), (bool, Refused)> {
+        let (x, y) = (words(&header(machine.0)), words(&header(correction.0)));
+        let (m, c) = ((&x, machine.1), (&y, correction.1));
+        match read_layered_from_in(m, c, id, places.ids, places.values, places.columns) {
+            [kind @ (0 | 1), _, _, count] => Ok((count, kind == 1)),
+            [refusal, number, column, _] => Err((column == 1, (refusal, number))),
+        }
     }
 }
 

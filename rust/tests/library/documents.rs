@@ -561,7 +561,7 @@ fn a_wrong_count_is_found() {
         (format!("The gate tries {gate} "), "The gate tries 98 "),
         (format!("the {more} in `must-fail"), "the 201 in `must-fail"),
         (format!("in {files} files of"), "in 44 files of"),
-        ("some 3,100 lines in".to_string(), "some 2400 lines in"),
+        ("some 3,400 lines in".to_string(), "some 2400 lines in"),
         ("some 400 lines, which".to_string(), "some 300 lines, which"),
         ("case, some 700:".to_string(), "case, some 650:"),
         ("| 39 computed cases".to_string(), "| 40 computed cases"),

@@ -205,17 +205,21 @@ fn the_shared_library_shows_what_the_header_declares() {
         .filter_map(|part| part.split("/*").next());
     let declared: BTreeSet<&str> = code
         .flat_map(|code| code.match_indices('(').map(|(at, _)| &code[..at]))
-        .filter_map(|before| before.rsplit([' ', '*']).next())
+        .filter_map(|before| before.rsplit([' ', '*', '\n']).next())
         .filter(|name| name.starts_with("signalfern_"))
         // Those that hand an answer back are inline, over a call that writes it.
         .filter(|name| !header.contains(&format!("{name}_to(")))
         .collect();
-    assert_eq!(declared.len(), 33, "{declared:?}");
+    assert_eq!(declared.len(), 37, "{declared:?}");
     // Each proved call has a manual page, under its own name and under that of the one that hands the answer back.
-    let pages = files(&Path::new(&prefix).join("share/man/man3"));
+    let man = Path::new(&prefix).join("share/man/man3");
+    let pages = files(&man);
     for call in declared.iter().filter(|name| name.ends_with("_to")) {
-        for name in [*call, call.trim_end_matches("_to")] {
+        let inline = call.trim_end_matches("_to");
+        let page = fs::read_to_string(man.join(format!("{inline}.3"))).unwrap();
+        for name in [*call, inline] {
             assert!(pages.contains(&format!("{name}.3")), "{name}: {pages:?}");
+            assert!(page.contains(&format!("{name}(")), "{name}: {page}");
         }
     }
 

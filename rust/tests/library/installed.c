@@ -67,6 +67,16 @@ int main(void)
     PROMISE(layered.kind == SIGNALFERN_FOUND && layered.column == SIGNALFERN_CORRECTION && layered.value == 135);
     layered = signalfern_look_up_layered_in(opened, column, len, opened, column, len, 3);
     PROMISE(layered.kind == SIGNALFERN_ABSENT);
+    uint8_t by;
+    signalfern_layered_page both = signalfern_look_up_layered_page(NULL, 0, column, len, ids + 2, 1, &ordinal, 1, &value, 1, &kind, 1, &by, 1);
+    PROMISE(both.refusal == 0 && both.number == 1 && kind == SIGNALFERN_FOUND && value == 135 && by == SIGNALFERN_CORRECTION);
+    both = signalfern_look_up_layered_page_in(opened, column, len, opened, column, len, ids, 3, &ordinal, 1, &value, 1, &kind, 1, &by, 1);
+    PROMISE(both.refusal == SIGNALFERN_BUFFER && both.number == 3);
+    uint32_t id;
+    signalfern_layered_readout pairs = signalfern_read_layered_from(column, len, column, len, 3, &id, 1, &value, 1, &by, 1);
+    PROMISE(pairs.kind == SIGNALFERN_ENDED && pairs.count == 1 && id == 7 && value == 135 && by == SIGNALFERN_CORRECTION);
+    pairs = signalfern_read_layered_from_in(opened, column, len, opened, column, len, 1, &id, 1, &value, 1, &by, 1);
+    PROMISE(pairs.kind == SIGNALFERN_MORE && pairs.count == 1 && id == 2);
     signalfern_part part = signalfern_layered_values(NULL, 0, column, len, 7);
     PROMISE(part.column == SIGNALFERN_CORRECTION && part.start + part.len == len && part.len == opened.value_bytes);
 

@@ -25,6 +25,7 @@ mod format_page;
 mod format_worked;
 mod gate;
 mod header;
+mod in_layers;
 mod install;
 mod layered;
 mod lists;

@@ -65,10 +65,7 @@ fn answers_as_the_lines_come() {
         ),
         (
             &["look-up", &column, "-c", &correction, "--ids", "-"],
-            [
-                "7 135 by machine ordinal 2 words machine 0 correction 0\n",
-                "5 absent words machine 0 correction 0\n",
-            ],
+            ["7 135 by machine ordinal 2\n", "5 absent\n"],
         ),
         (
             &["set", "find", &set, "--ids", "-"],

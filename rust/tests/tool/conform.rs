@@ -188,7 +188,7 @@ fn the_example_maker() {
     let ran = run(&[&words[..], &program].concat()).expect(0, &[]);
     assert!(
         ran.out
-            .ends_with("conforms as writer, reader, judge, set, opened, walker, opened_walker\n"),
+            .ends_with("conforms as writer, reader, judge, set, opened, walker, opened_walker, layers, opened_layers\n"),
         "{}",
         ran.out
     );

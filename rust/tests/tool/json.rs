@@ -145,7 +145,7 @@ fn members_are_those_of_the_manual() {
     folder.put(
         "words",
         "write list -o new --best --duplicates first\nwrite bad.list --dry-run\nwrite list --dry-run --duplicates=last\n\
-         check column damaged list\nread column\nlook-up column 0 1\nlook-up column 0 1 2 -c correction\n\
+         check column damaged list\nread column\nread column -c correction --by\nlook-up column 0 1\nlook-up column 0 1 2 -c correction\n\
          next column 3 --count 9\nfind column 0 140\nfind column 0 9\nfind column 0 140 --count\nstats column\n\
          diff column correction\ndiff correction column\naudit column 0 2 4 5 -c correction\naudit runs 7\naudit table 7\n\
          show column\nshow damaged\nshow runs\nshow table\nset write ids -o newset\nset check set list\nset read set\n\

@@ -20,9 +20,16 @@ fn which_column_spoke() {
                    4 254 by correction ordinal 1 words machine 0 correction 0\n\
                    5 absent words machine 0 correction 0\n";
     assert_eq!(ran.out, answers);
-    let list = folder.put("ids", "0\n2\n4\n5\n");
+    // By pages, in any order: without the words.
+    let list = folder.put("ids", "4\n70000\n0\n2\n4\n");
     let ran = run(&[&words[..], &["--ids", &list]].concat()).expect(0, &[]);
-    assert_eq!(ran.out, answers);
+    let by_pages = "4 254 by correction ordinal 1\n70000 absent\n0 150 by machine ordinal 0\n\
+                    2 -1 by correction ordinal 0\n4 254 by correction ordinal 1\n";
+    assert_eq!(ran.out, by_pages);
+    let ran = run(&[&words[..], &["--ids", &list, "--json"]].concat()).expect(0, &[]);
+    let first = "{\"id\":4,\"answer\":\"found\",\"value\":\"254\",\"ordinal\":\"1\",\"by\":\"correction\"}\n\
+                 {\"id\":70000,\"answer\":\"absent\"}\n";
+    assert!(ran.out.starts_with(first), "{}", ran.out);
     let from_pipe = ["look-up", &machine, "-c", "-", "2"];
     let ran = run_with(&from_pipe, &folder.bytes("correction")).expect(0, &[]);
     assert!(answers.contains(&ran.out) && ran.out.starts_with("2 -1"));
@@ -31,6 +38,156 @@ fn which_column_spoke() {
     let answers = "2 140 by correction ordinal 1 words machine 0 correction 0\n\
                    4 254 by machine ordinal 1 words machine 0 correction 0\n";
     assert_eq!(ran.out, answers);
+}
+
+/// A list of which one id is refused: those after it get their answers.
+#[test]
+fn a_list_with_a_refused_id() {
+    let (folder, machine, correction) = layers("layered_list");
+    let list = folder.put("ids", "2\n2147352576\n7\n");
+    let ran = run(&["look-up", &machine, "-c", &correction, "--ids", &list]);
+    assert_eq!(
+        ran.out,
+        "2 -1 by correction ordinal 0\n7 135 by machine ordinal 2\n"
+    );
+    ran.expect_all(1, &["line 2", "refusal 14, ID"]);
+    let mut bytes = folder.bytes("machine");
+    bytes[12] = 3; // Four places where there is room for three.
+    let broken = folder.put("broken", &bytes);
+    let list = folder.put("ids", "7\n2\n4\n");
+    let words = ["look-up", &broken, "-c", &correction, "--unchecked"];
+    let ran = run(&[&words[..], &["--ids", &list]].concat());
+    assert_eq!(
+        ran.out,
+        "2 -1 by correction ordinal 0\n4 254 by correction ordinal 1\n"
+    );
+    ran.expect_all(1, &["broken: id 7: refusal 15, BROKEN"]);
+    let words = ["look-up", &machine, "-c", &broken, "--unchecked"];
+    let ran = run(&[&words[..], &["--ids", &list]].concat());
+    assert_eq!(ran.out, "");
+    ran.expect(1, &["broken: id 2: refusal 15, BROKEN"]);
+}
+
+#[test]
+fn the_pairs_of_both() {
+    let (folder, machine, correction) = layers("layered_read");
+    let words = ["read", &machine, "--correction", &correction];
+    let read = |more: &[&str]| run(&[&words[..], more].concat()).expect(0, &[]).out;
+    assert_eq!(read(&[]), "0 150\n2 -1\n4 254\n7 135\n");
+    assert_eq!(
+        read(&["--by"]),
+        "0 150 machine\n2 -1 correction\n4 254 correction\n7 135 machine\n"
+    );
+    assert_eq!(read(&["--from", "1", "--to", "6"]), "2 -1\n4 254\n");
+    assert_eq!(
+        read(&["--from", "3", "--limit", "1", "--by"]),
+        "4 254 correction\n"
+    );
+    assert_eq!(
+        read(&["--by", "--format", "csv", "--from", "4"]),
+        "id,value,by\n4,254,correction\n7,135,machine\n"
+    );
+    assert_eq!(
+        read(&[
+            "--by",
+            "--format",
+            "tsv",
+            "--columns",
+            "word,score",
+            "--limit",
+            "1"
+        ]),
+        "word\tscore\tby\n0\t150\tmachine\n"
+    );
+    assert_eq!(
+        read(&["--by", "--json", "--from", "7"]),
+        "{\"id\":7,\"value\":\"135\",\"by\":\"machine\"}\n"
+    );
+    assert_eq!(
+        read(&["--json", "--from", "7"]),
+        "{\"id\":7,\"value\":\"135\"}\n"
+    );
+    // To a file; and the correction from a pipe.
+    let file = folder.path("pairs");
+    assert_eq!(read(&["-o", &file]), "");
+    assert_eq!(folder.bytes("pairs"), b"0 150\n2 -1\n4 254\n7 135\n");
+    let from_pipe = ["read", &machine, "-c", "-", "--limit", "2"];
+    let ran = run_with(&from_pipe, &folder.bytes("correction")).expect(0, &[]);
+    assert_eq!(ran.out, "0 150\n2 -1\n");
+    // The other way round.
+    let ran = run(&["read", &correction, "-c", &machine]).expect(0, &[]);
+    assert_eq!(ran.out, "0 150\n2 140\n4 254\n7 135\n");
+}
+
+/// More than a call of the library reads at a time, beside what is put together here.
+#[test]
+fn many_pairs_of_both() {
+    let folder = Folder::new("layered_many");
+    let below: Vec<u32> = (0..30_000).map(|i| i * 3).collect();
+    let above: Vec<u32> = (0..700).map(|i| i * 101).collect();
+    let machine = folder.column("machine", &below, &vec![7; below.len()]);
+    let correction = folder.column("correction", &above, &vec![-8; above.len()]);
+    let mut both: std::collections::BTreeMap<u32, &str> =
+        below.iter().map(|&id| (id, "7")).collect();
+    both.extend(above.iter().map(|&id| (id, "-8")));
+    let expected: String = both.iter().map(|(id, it)| format!("{id} {it}\n")).collect();
+    let ran = run(&["read", &machine, "-c", &correction]).expect(0, &[]);
+    assert!(ran.out == expected);
+    let ids: String = (0..3000).map(|i| format!("{}\n", i * 37 % 3001)).collect();
+    let list = folder.put("ids", &ids);
+    let ran = run(&["look-up", &machine, "-c", &correction, "--ids", &list]).expect(0, &[]);
+    let by_two = |it: &&str| {
+        if **it == *"7" {
+            "machine"
+        } else {
+            "correction"
+        }
+    };
+    let expected: String = (0..3000)
+        .map(|i| {
+            let id = i * 37 % 3001;
+            match both.get(&id) {
+                None => format!("{id} absent\n"),
+                Some(it) => {
+                    let (by, list) = (by_two(it), if **it == *"7" { &below } else { &above });
+                    let ordinal = list.partition_point(|&other| other < id);
+                    format!("{id} {it} by {by} ordinal {ordinal}\n")
+                }
+            }
+        })
+        .collect();
+    assert!(ran.out == expected);
+}
+
+#[test]
+fn no_pairs_where_one_of_them_is_refused() {
+    let (folder, machine, correction) = layers("layered_read_refused");
+    let mut bytes = folder.bytes("machine");
+    bytes[12] = 3;
+    let broken = folder.put("broken", &bytes);
+    for (below, above) in [(&machine, &broken), (&broken, &correction)] {
+        let ran = run(&["read", below, "-c", above]).expect(1, &["broken: refusal 13, DAMAGED"]);
+        assert_eq!(ran.out, "");
+    }
+    run(&["read", &machine, "--by"]).expect(2, &["--by is for a --correction"]);
+    let digest = "0".repeat(64);
+    let words = ["read", &machine, "--correction-digest", &digest];
+    run(&words).expect(2, &["--correction-digest is for a --correction"]);
+    let words = [
+        "read",
+        &machine,
+        "-c",
+        &correction,
+        "--correction-digest",
+        &digest,
+    ];
+    let ran = run(&words).expect(1, &["correction"]);
+    assert_eq!(ran.out, "");
+    run(&["read", "-", "-c", "-"]).expect(2, &["only one file can come from standard input"]);
+    // Neither of the two is written over.
+    for file in [&machine, &correction] {
+        run(&["read", &machine, "-c", &correction, "-o", file]).expect(2, &["it is the input"]);
+    }
 }
 
 #[test]

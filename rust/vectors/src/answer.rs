@@ -5,7 +5,7 @@ use crate::recipe::{self, field};
 use crate::reply::{
     bytes, candidate, column, counted, layered, list, looked, opened, ordinal, refused, with,
 };
-use crate::{Header, Json, Judged, Maker, BEFORE};
+use crate::{Header, Json, Judged, Lists, Maker, Places, BEFORE};
 
 /// The reply of a maker to a call with these arguments.
 ///
@@ -32,6 +32,8 @@ pub fn answer(maker: &dyn Maker, call: &str, given: &Json) -> Json {
             layered(maker.look_up_layered(&machine, &correction, asked.id("id")))
         }
         "layered_values" => asked.layered_values(),
+        "look_up_layered_page" => asked.look_up_layered_page(None),
+        "read_layered_from" => asked.read_layered_from(None),
         "set_write" => asked.set_write(),
         "set_check" => counted(maker.set_check(&asked.bytes("bytes"))),
         "set_find" => ordinal(
@@ -51,16 +53,15 @@ pub fn answer(maker: &dyn Maker, call: &str, given: &Json) -> Json {
         "first_between_from_in" => asked.first_between_from(Some(asked.header("column"))),
         "look_up_layered_in" => {
             let (machine, correction) = (asked.bytes("machine"), asked.bytes("correction"));
-            let headers = [
-                asked.header("machine_column"),
-                asked.header("correction_column"),
-            ];
+            let headers = asked.headers();
             layered(maker.look_up_layered_in(
                 (&headers[0], &machine),
                 (&headers[1], &correction),
                 asked.id("id"),
             ))
         }
+        "look_up_layered_page_in" => asked.look_up_layered_page(Some(asked.headers())),
+        "read_layered_from_in" => asked.read_layered_from(Some(asked.headers())),
         other => panic!("no call `{other}`"),
     }
 }
@@ -119,6 +120,10 @@ impl Asked<'_> {
             value_bytes: get("value_bytes"),
             start: get("start"),
         }
+    }
+
+    fn headers(&self) -> [Header; 2] {
+        ["machine_column", "correction_column"].map(|key| self.header(key))
     }
 
     fn write(&self) -> Json {
@@ -251,6 +256,69 @@ impl Asked<'_> {
             ("start", number(part.start)),
             ("length", number(part.length)),
         ])
+    }
+
+    fn look_up_layered_page(&self, headers: Option<[Header; 2]>) -> Json {
+        let (mut ordinals, mut values) = (self.lent("ordinals_room"), self.lent("values_room"));
+        let (mut kinds, mut columns) = (self.lent("kinds_room"), self.lent("columns_room"));
+        let (machine, correction) = (self.bytes("machine"), self.bytes("correction"));
+        let ids = self.list::<u32>("ids");
+        let lists = Lists {
+            ordinals: &mut ordinals,
+            values: &mut values,
+            kinds: &mut kinds,
+            columns: &mut columns,
+        };
+        let (m, c, maker) = (&machine[..], &correction[..], self.maker);
+        let reply = match &headers {
+            None => maker.look_up_layered_page(m, c, &ids, lists),
+            Some([x, y]) => maker.look_up_layered_page_in((x, m), (y, c), &ids, lists),
+        };
+        let reply = match reply {
+            Ok((machine, correction)) => object([
+                ("kind", text("done")),
+                ("number", number(ids.len() as i128)),
+                ("machine_words", number(machine)),
+                ("correction_words", number(correction)),
+            ]),
+            Err(it) => refused(it),
+        };
+        let lists = [
+            ("ordinals", list(&ordinals)),
+            ("values", list(&values)),
+            ("kinds", list(&kinds)),
+            ("columns", list(&columns)),
+        ];
+        with(reply, lists)
+    }
+
+    fn read_layered_from(&self, headers: Option<[Header; 2]>) -> Json {
+        let (mut ids, mut values) = (self.lent("ids_room"), self.lent("values_room"));
+        let mut columns = self.lent("columns_room");
+        let (machine, correction) = (self.bytes("machine"), self.bytes("correction"));
+        let places = Places {
+            ids: &mut ids,
+            values: &mut values,
+            columns: &mut columns,
+        };
+        let (m, c, id) = (&machine[..], &correction[..], self.id("id"));
+        let reply = match &headers {
+            None => self.maker.read_layered_from(m, c, id, places),
+            Some([x, y]) => self.maker.read_layered_from_in((x, m), (y, c), id, places),
+        };
+        let reply = match reply {
+            Ok((count, ended)) => object([
+                ("kind", text(if ended { "ended" } else { "more" })),
+                ("number", number(count)),
+            ]),
+            Err((correction, it)) => with(refused(it), [("column", column(correction))]),
+        };
+        let lists = [
+            ("ids", list(&ids)),
+            ("values", list(&values)),
+            ("columns", list(&columns)),
+        ];
+        with(reply, lists)
     }
 
     fn set_write(&self) -> Json {

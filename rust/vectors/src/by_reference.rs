@@ -3,7 +3,7 @@
 use signalfern_reference as reference;
 use signalfern_reference::{Answer, Column, Judgement, Layer, LayeredAnswer, LayeredLook, Refusal};
 
-use crate::{Header, Judged, Layered, Look, Maker, Part, Refused};
+use crate::{Header, Judged, Layered, Lists, Look, Maker, Part, Places, Refused};
 
 /// The calls of `rust/reference`, which is documents 01 and 02 in plain Rust.
 pub struct Reference;
@@ -41,6 +41,13 @@ fn readout(read: Result<reference::Readout, Refusal>) -> Result<(u64, bool), Ref
 
 fn is_correction(layer: Layer) -> bool {
     layer == Layer::Correction
+}
+
+fn layered_readout(
+    readout: Result<reference::Readout, (Layer, Refusal)>,
+) -> Result<(u64, bool), (bool, Refused)> {
+    let readout = readout.map_err(|(layer, it)| (is_correction(layer), refused(it)))?;
+    Ok((readout.count as u64, readout.ended))
 }
 
 fn layered(look: LayeredLook) -> Result<Layered, (bool, Refused)> {
@@ -196,6 +203,32 @@ impl Maker for Reference {
         }
     }
 
+    fn look_up_layered_page(
+        &self,
+        machine: &[u8],
+        correction: &[u8],
+        ids: &[u32],
+        lists: Lists,
+    ) -> Result<(u64, u64), Refused> {
+        let (ordinals, values) = (lists.ordinals, lists.values);
+        let (kinds, columns) = (lists.kinds, lists.columns);
+        reference::look_up_layered_page(machine, correction, ids, ordinals, values, kinds, columns)
+            .map_err(refused)
+    }
+
+    fn read_layered_from(
+        &self,
+        machine: &[u8],
+        correction: &[u8],
+        id: u32,
+        places: Places,
+    ) -> Result<(u64, bool), (bool, Refused)> {
+        let (ids, values, columns) = (places.ids, places.values, places.columns);
+        layered_readout(reference::read_layered_from(
+            machine, correction, id, ids, values, columns,
+        ))
+    }
+
     fn set_write(&self, ids: &[u32], out: &mut [u8]) -> Result<u64, Refused> {
         reference::set_write(ids, out).map_err(refused)
     }
@@ -300,6 +333,44 @@ impl Maker for Reference {
             (&column(machine.0), machine.1),
             (&column(correction.0), correction.1),
             id,
+        ))
+    }
+
+    fn look_up_layered_page_in(
+        &self,
+        machine: (&Header, &[u8]),
+        correction: (&Header, &[u8]),
+        ids: &[u32],
+        lists: Lists,
+    ) -> Result<(u64, u64), Refused> {
+        let (x, y) = (column(machine.0), column(correction.0));
+        reference::look_up_layered_page_in(
+            (&x, machine.1),
+            (&y, correction.1),
+            ids,
+            lists.ordinals,
+            lists.values,
+            lists.kinds,
+            lists.columns,
+        )
+        .map_err(refused)
+    }
+
+    fn read_layered_from_in(
+        &self,
+        machine: (&Header, &[u8]),
+        correction: (&Header, &[u8]),
+        id: u32,
+        places: Places,
+    ) -> Result<(u64, bool), (bool, Refused)> {
+        let (x, y) = (column(machine.0), column(correction.0));
+        layered_readout(reference::read_layered_from_in(
+            (&x, machine.1),
+            (&y, correction.1),
+            id,
+            places.ids,
+            places.values,
+            places.columns,
         ))
     }
 }

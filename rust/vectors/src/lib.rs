@@ -30,7 +30,7 @@ pub use answer::answer;
 pub use by_reference::Reference;
 pub use calls::files;
 pub use json::Json;
-pub use maker::{Header, Judged, Layered, Look, Maker, Part, Refused};
+pub use maker::{Header, Judged, Layered, Lists, Look, Maker, Part, Places, Refused};
 pub use numbers::numbers_file;
 
 /// What every place of a lent list holds before a call.

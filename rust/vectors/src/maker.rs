@@ -52,6 +52,23 @@ pub struct Header {
     pub start: u64,
 }
 
+/// The lists that are lent to a page in two columns.
+#[allow(missing_docs)]
+pub struct Lists<'a> {
+    pub ordinals: &'a mut [u64],
+    pub values: &'a mut [i64],
+    pub kinds: &'a mut [u8],
+    pub columns: &'a mut [u8],
+}
+
+/// The lists that are lent to a reading of two columns.
+#[allow(missing_docs)]
+pub struct Places<'a> {
+    pub ids: &'a mut [u32],
+    pub values: &'a mut [i64],
+    pub columns: &'a mut [u8],
+}
+
 /// The calls of `docs/FORMAT.md`, each on lent lists.
 #[allow(missing_docs)]
 pub trait Maker {
@@ -117,6 +134,23 @@ pub trait Maker {
         id: u32,
     ) -> Result<Layered, (bool, Refused)>;
     fn layered_values(&self, machine: &[u8], correction: &[u8], id: u32) -> Part;
+    /// Gives the sums of words, the machine column's first.
+    fn look_up_layered_page(
+        &self,
+        machine: &[u8],
+        correction: &[u8],
+        ids: &[u32],
+        lists: Lists,
+    ) -> Result<(u64, u64), Refused>;
+    /// Gives how many pairs were placed, and whether no listed id is left; a refusal has whether it is the
+    /// correction's.
+    fn read_layered_from(
+        &self,
+        machine: &[u8],
+        correction: &[u8],
+        id: u32,
+        places: Places,
+    ) -> Result<(u64, bool), (bool, Refused)>;
     fn set_write(&self, ids: &[u32], out: &mut [u8]) -> Result<u64, Refused>;
     fn set_check(&self, bytes: &[u8]) -> Result<u64, Refused>;
     fn set_find(&self, bytes: &[u8], id: u32) -> Result<Option<u64>, Refused>;
@@ -165,4 +199,18 @@ pub trait Maker {
         correction: (&Header, &[u8]),
         id: u32,
     ) -> Result<Layered, (bool, Refused)>;
+    fn look_up_layered_page_in(
+        &self,
+        machine: (&Header, &[u8]),
+        correction: (&Header, &[u8]),
+        ids: &[u32],
+        lists: Lists,
+    ) -> Result<(u64, u64), Refused>;
+    fn read_layered_from_in(
+        &self,
+        machine: (&Header, &[u8]),
+        correction: (&Header, &[u8]),
+        id: u32,
+        places: Places,
+    ) -> Result<(u64, bool), (bool, Refused)>;
 }

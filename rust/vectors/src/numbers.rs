@@ -33,7 +33,7 @@ const REASONS: [&str; 8] = [
 ];
 
 /// What a maker may conform as, and the calls of each.
-const CLASSES: [(&str, &[&str]); 7] = [
+const CLASSES: [(&str, &[&str]); 9] = [
     ("writer", &["write", "write_planned", "plan"]),
     (
         "reader",
@@ -64,6 +64,11 @@ const CLASSES: [(&str, &[&str]); 7] = [
     (
         "opened_walker",
         &["read_from_in", "pair_at_in", "first_between_from_in"],
+    ),
+    ("layers", &["look_up_layered_page", "read_layered_from"]),
+    (
+        "opened_layers",
+        &["look_up_layered_page_in", "read_layered_from_in"],
     ),
 ];
 

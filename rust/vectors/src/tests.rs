@@ -64,7 +64,9 @@ fn each_refusal_of_each_call() {
         ("read_from", look_up.clone()),
         ("pair_at", [&open[..], &[15]].concat()),
         ("first_between_from", [&open[..], &[15]].concat()),
-        ("look_up_layered", look_up),
+        ("look_up_layered", look_up.clone()),
+        ("look_up_layered_page", vec![12]),
+        ("read_layered_from", look_up),
         ("set_write", vec![3, 4, 6]),
         ("set_check", vec![7, 8, 13]),
         ("set_find", vec![7, 8, 13, 14]),
@@ -77,6 +79,8 @@ fn each_refusal_of_each_call() {
         ("pair_at_in", vec![10, 11, 15]),
         ("first_between_from_in", vec![9, 10, 11, 15]),
         ("look_up_layered_in", vec![10, 11, 14, 15]),
+        ("look_up_layered_page_in", vec![12]),
+        ("read_layered_from_in", vec![10, 11, 14, 15]),
     ] {
         let refusals = BTreeSet::from_iter(refusals);
         assert_eq!(taken(call, "reply", "refusal"), refusals, "{call}");

@@ -1,12 +1,11 @@
 -- `page::look_up_page` meets its contract. Assumes nothing.
 use Rattle.format.specs.Kit.{needs, _≡_, arith, length}
-use Rattle.format.specs.Refusals.{done}
-use Rattle.format.specs.Opening.{openColumn}
-use Rattle.column.specs.Opened.{columnOf}
-use Rattle.column.proofs.Facts.{opened-as, refused-as}
+use Rattle.page.specs.Parts.{three}
 use Rattle.page.specs.Placed.{Room}
 use Rattle.format.specs.Editions.{editions}
+use Rattle.format.specs.LookUp.{lookUp}
 use Rattle.laws.proofs.Paged.{few-ordinals, few-values, few-kinds}
+use Rattle.page.proofs.Openings.{open-fits, answers-by}
 use Rattle.page.proofs.Pages.{begins, ends, refused-so, done-so}
 use Rattle.page.proofs.look_up_page.Statement.{statement}
 use Rattle.page.proofs.look_up_page.Tie as tie
@@ -37,39 +36,22 @@ returns-4 : tie.Need-returns-4
 returns-4 c =
     let a = c .before .before .before .before .before .before .before .before .args in
     done-so (a .bytes .now) (a .ids .now) 0 (a .ordinals .now) _ (a .values .now) _ (a .kinds .now) _ (room (c .before))
-    (ends _ _ (begins (a .bytes .now) (a .ids .now) (a .ordinals .now) (a .values .now) (a .kinds .now)) (omega (arith, c .if4 .taken)))
+    (ends _ _ (begins (lookUp editions (a .bytes .now)) (a .ids .now) (three (a .ordinals .now) (a .values .now) (a .kinds .now))) (omega (arith, c .if4 .taken))
+    (room (c .before)))
 
-refuse-requires : tie.Need-refuse-requires
-refuse-requires c κs = room (c .before .before .before .before .before .before .before .before)
-
--- the header opened
-open-at : (c : tie.After-known-told2) → let a = c .before .before .before .before .before .before .before .before .before .before .before .before .args in
-    openColumn editions (a .bytes .now) ≡ done (columnOf (c .before .opening2 .given .0 .0))
-open-at c =
+fill-by-requires : tie.Need-fill-by-requires
+fill-by-requires c κs =
     let o = c .before .before .before in
-    let k = c .before .opening2 .given in
-    opened-as _ (o .«open» .result) (k .0 .0) (o .«open» .ensures) (k .1)
-
-fill-requires : tie.Need-fill-requires
-fill-requires c κs = let k = c .before .before .before in (open-at k, room (k .before .before .before .before .before))
+    (open-fits _ (o .«open» .result) (o .«open» .ensures), room (o .before .before))
 
 returns-5 : tie.Need-returns-5
 returns-5 c =
     let f = c .before .before .before .before .before in
-    let k = f .before .before .before .before .before in
-    let o = k .before .before in
+    let o = f .before .before .before .before in
     let e = o .before .before in
     let a = e .before .before .before .before .before .before .before .args in
-    let w = k .opening .given in
-    done-so (a .bytes .now) (a .ids .now) (f .refuse .result) (a .ordinals .now) _ (a .values .now) _ (a .kinds .now) _ (room e)
-    (f .refuse .ensures (a .bytes .now) (refused-as (a .bytes .now) (o .«open» .result) (w .0 .0) (o .«open» .ensures) (w .1)))
-
-returns-6 : tie.Need-returns-6
-returns-6 c =
-    let f = c .before .before .before .before .before in
-    let e = f .before .before .before .before .before .before .before .before .before in
-    let a = e .before .before .before .before .before .before .before .args in
-    done-so (a .bytes .now) (a .ids .now) (f .fill .result) (a .ordinals .now) _ (a .values .now) _ (a .kinds .now) _ (room e) (f .fill .ensures)
+    done-so (a .bytes .now) (a .ids .now) (f .fill-by .result) (a .ordinals .now) _ (a .values .now) _ (a .kinds .now) _ (room e)
+    (rw (answers-by (a .bytes .now) _ (o .«open» .ensures) (a .ids .now)) at (f .fill-by .ensures))
 
 pub look-up-page-spec : {M : Type 1} → statement M
 look-up-page-spec =
@@ -78,11 +60,7 @@ look-up-page-spec =
     returns-2
     returns-3
     returns-4
-    (λ c κs. search needs) (λ c. search needs)
-    refuse-requires
-    (λ c. search needs)
-    fill-requires
+    (λ c κs. search needs)
+    fill-by-requires
     (λ c. search needs) (λ c. search needs) (λ c. search needs)
-    returns-5
-    (λ c. search needs) (λ c. search needs) (λ c. search needs)
-    returns-6)
+    returns-5)

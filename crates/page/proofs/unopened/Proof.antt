@@ -2,23 +2,23 @@
 use Rattle.format.specs.Kit.{needs, sym, _∙_, subst}
 use Rattle.format.specs.Refusals.{Outcome}
 use Rattle.format.specs.LookUp.{Look}
-use Rattle.lookup.proofs.Calls.{id-above, not-opened}
 use Rattle.page.specs.Placed.{Holds}
+use Rattle.page.proofs.Openings.{above-by, refused-by}
 use Rattle.page.proofs.unopened.Statement.{statement}
 use Rattle.page.proofs.unopened.Tie as tie
 
 returns : tie.Need-returns
-returns c bytes o =
+returns c bytes =
     let i = c .before .before in
     let a = i .before .args in
     subst (λ (x : Outcome Look). Holds x (c .refused .result))
-    (sym (not-opened bytes (a .id) (sym (i .id-ok .ensures) ∙ c .before .if1 .taken) (a .why) o)) (c .refused .ensures)
+    (sym (refused-by bytes (a .id) (sym (i .id-ok .ensures) ∙ c .before .if1 .taken) (a .why))) (c .refused .ensures)
 
 returns-2 : tie.Need-returns-2
-returns-2 c bytes o =
+returns-2 c bytes =
     let i = c .before .before in
     subst (λ (x : Outcome Look). Holds x (c .refused2 .result))
-    (sym (id-above bytes (i .before .args .id) (sym (i .id-ok .ensures) ∙ c .before .if1 .left))) (c .refused2 .ensures)
+    (sym (above-by bytes (i .before .args .id) _ (sym (i .id-ok .ensures) ∙ c .before .if1 .left))) (c .refused2 .ensures)
 
 pub unopened-spec : {M : Type 1} → statement M
 unopened-spec =

@@ -25,9 +25,9 @@ read c =
     let n = c .before in
     let q = n .before in
     let p = q .before .before .before in
-    value-read (parted p) (p .before .before .before .before .args .ordinal) (q .slot-of .result) (n .number-in .result) (c .value-of .result)
+    value-read (parted p) (p .before .before .before .before .args .ordinal) (q .slot-of .result) (n .number-of .result) (c .value-of .result)
     (q .slot-of .ensures)
-    (n .number-in .ensures) (c .value-of .ensures)
+    (n .number-of .ensures) (c .value-of .ensures)
 
 slot-of-requires : tie.Need-slot-of-requires
 slot-of-requires c κs =

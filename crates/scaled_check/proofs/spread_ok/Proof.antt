@@ -49,5 +49,7 @@ spread-ok-spec =
     (λ c. spare c .0)
     (λ c κs. omega (arith, spare c .1))
     returns
-    (λ c κs. let st = c .before .before .before .before .before in (st .pre .1, st .pre .2))
+    (λ c κs.
+    let p = c .before .before .before .before .before .pre in
+    record { few = p .0; rules = p .1; some = p .2 })
     returns-2)

@@ -69,7 +69,7 @@ loop-again c =
       omega arith,
       rw m (place-on 4 (l .loop .i) w (l .loop .at) (l .loop .skip) (l .loop .inv .1)),
       omega arith,
-      four-more (l .loop .inv .3) (four (c .before .before .before)) refl (c .before .put-four .ensures),
+      four-more (l .loop .inv .3) (four (c .before .before .before)) refl refl (c .before .put-four .ensures),
     )
 
 pub fill-fours-spec : {M : Type 1} → statement M

@@ -1,20 +1,16 @@
 -- `scaling::reciprocal` meets its contract. Assumes nothing.
-use Rattle.format.specs.Kit.{ℕ, _<_, arith, le-div-iff-mul-le, div-le-self, div-add-mod', mod-lt, needs}
+use Rattle.format.specs.Kit.{ℕ, _/_, add-mul, one-mul, arith, div-le-self, div-add-mod', needs}
 use Rattle.scaling.proofs.reciprocal.Statement.{statement}
 use Rattle.scaling.proofs.reciprocal.Tie as tie
 
-returns-2 : tie.Need-returns-2
-returns-2 c = record { product = omega arith; small = omega arith; near = λ h. omega arith }
+add-result : tie.Need-add-result
+add-result c = omega (arith, div-le-self 4294967296 (c .before .before .args .d))
 
 returns-3 : tie.Need-returns-3
 returns-3 c =
     let d : ℕ = c .before .before .args .d in
-    let p : 0 < d = omega arith in
-    record {
-      product = le-div-iff-mul-le p .0 (omega arith);
-      small = div-le-self 4294967296 d;
-      near = λ h. omega (arith, div-add-mod' 4294967296 d, mod-lt 4294967296 h);
-    }
+    let q : ℕ = 4294967296 / d in
+    record { product = omega (arith, add-mul q 1 d, one-mul d, div-add-mod' 4294967296 d) }
 
 pub reciprocal-spec : {M : Type 1} → statement M
-reciprocal-spec = tie.close (tie.spec (λ c. search needs) returns-2 (λ c. search needs) returns-3)
+reciprocal-spec = tie.close (tie.spec (λ c. search needs) (λ c. search needs) (λ c. search needs) add-result returns-3)

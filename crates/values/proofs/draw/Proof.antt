@@ -20,6 +20,12 @@ returns-2 : tie.Need-returns-2
 unfolding codec
 returns-2 c = rw (c .before .before .before .enum-told2 .given .1) (c .before .draw2 .ensures)
 
+draw-runs-requires : tie.Need-draw-runs-requires
+draw-runs-requires c κs = rw (c .before .enum-told3 .given .1) at (c .before .before .before .before .pre)
+
+returns-3 : tie.Need-returns-3
+returns-3 c = rw (c .before .before .before .enum-told3 .given .1) (c .before .draw-runs .ensures)
+
 draw-codes-requires : tie.Need-draw-requires-3
 draw-codes-requires c κs = rw (c .before .enum-told4 .given .1) at (c .before .before .before .before .pre)
 
@@ -34,7 +40,7 @@ draw-spec =
     (λ c. search needs)
     draw-whole-requires-2
     (λ c. search needs)
-    (λ c κs. c .before .before .before .before .pre)
+    draw-runs-requires
     (λ c. search needs)
     draw-codes-requires
     (λ c. search needs)
@@ -42,6 +48,6 @@ draw-spec =
     (λ c. search needs)
     returns-2
     (λ c. search needs)
-    (λ c. c .before .draw-each .ensures)
+    returns-3
     (λ c. search needs)
     returns-4)

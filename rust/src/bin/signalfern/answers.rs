@@ -4,7 +4,7 @@ use std::io::{self, Write};
 
 use signalfern::{Layer, Refusal};
 
-use crate::column::{Answers, Asked};
+use crate::column::{Answers, Paged};
 use crate::json::Object;
 use crate::printing::put;
 
@@ -53,11 +53,7 @@ impl Told {
     }
 
     fn json(&self) -> Object {
-        let object = found_object(self.id, self.found);
-        let object = match self.by {
-            Some(layer) => object.text("by", &layer.to_string()),
-            None => object,
-        };
+        let object = named(found_object(self.id, self.found), self.by);
         let costs = self.costs.iter();
         costs.fold(object, |object, (name, cost)| match *name {
             "machine" => object.number("machine_words", *cost),
@@ -78,6 +74,14 @@ fn found_object(id: u32, found: Option<(i64, u64)>) -> Object {
     }
 }
 
+/// The same with the column that spoke.
+fn named(object: Object, by: Option<Layer>) -> Object {
+    match by {
+        Some(layer) => object.text("by", &layer.to_string()),
+        None => object,
+    }
+}
+
 /// A page of ids and what is answered to them. Ids that do not ascend are asked for block by block, since the
 /// column's bytes then come one after another, and told in the order in which they stand.
 #[derive(Default)]
@@ -88,10 +92,12 @@ pub struct Page {
     order: Vec<u32>,
     /// Where the next id of each block goes.
     places: Vec<u32>,
-    /// Values and ordinals, and kinds, in the order of the ids, if that is another.
+    /// Values and ordinals, and kinds and columns, in the order of the ids, if that is another.
     told: Vec<(i64, u64)>,
-    kinds: Vec<u8>,
+    kinds: Vec<(u8, u8)>,
     is_grouped: bool,
+    /// Whether two columns were asked, of which one spoke.
+    is_layered: bool,
     buffer: Vec<u8>,
 }
 
@@ -99,7 +105,8 @@ pub struct Page {
 const BLOCKS: usize = 1 << 16;
 
 impl Page {
-    pub fn ask(&mut self, asked: &Asked, ids: &[u32]) -> Result<(), Refusal> {
+    pub fn ask<P: Paged>(&mut self, asked: &P, ids: &[u32]) -> Result<(), Refusal> {
+        self.is_layered = P::LAYERED;
         self.is_grouped = !ids.is_sorted();
         if !self.is_grouped {
             return asked.look_up_page(ids, &mut self.answers);
@@ -107,11 +114,12 @@ impl Page {
         self.group(ids);
         asked.look_up_page(&self.grouped, &mut self.answers)?;
         self.told.resize(ids.len(), (0, 0));
-        self.kinds.resize(ids.len(), 0);
+        self.kinds.resize(ids.len(), (0, 0));
         for (place, &index) in self.order.iter().enumerate() {
             let told = (self.answers.values[place], self.answers.ordinals[place]);
             self.told[index as usize] = told;
-            self.kinds[index as usize] = self.answers.kinds[place];
+            let kind = (self.answers.kinds[place], self.answers.columns[place]);
+            self.kinds[index as usize] = kind;
         }
         Ok(())
     }
@@ -140,9 +148,18 @@ impl Page {
 
     fn kind(&self, index: usize) -> u8 {
         match self.is_grouped {
-            true => self.kinds[index],
+            true => self.kinds[index].0,
             false => self.answers.kinds[index],
         }
+    }
+
+    /// The column that spoke for the id at this index, where there are two.
+    fn by(&self, index: usize) -> Option<Layer> {
+        let number = match self.is_grouped {
+            true => self.kinds[index].1,
+            false => self.answers.columns[index],
+        };
+        Layer::from_number(number).filter(|_| self.is_layered)
     }
 
     /// The value and the ordinal of the id at this index, if it was found.
@@ -153,9 +170,12 @@ impl Page {
         }
     }
 
-    /// Why the id at this index is refused: by an opened column that is ID or BROKEN, which come without a number.
-    pub fn refusal(&self, index: usize) -> Refusal {
-        Refusal::from_number(self.kind(index).into(), 0).unwrap_or(Refusal::Broken)
+    /// Why the id at this index is refused, and by which column: by an opened one that is ID or BROKEN, which come
+    /// without a number.
+    pub fn refusal(&self, index: usize) -> (Layer, Refusal) {
+        let refusal = Refusal::from_number(self.kind(index).into(), 0);
+        let layer = self.by(index).unwrap_or(Layer::Machine);
+        (layer, refusal.unwrap_or(Refusal::Broken))
     }
 
     /// The ordinal of the id at this index, or that it is absent; none where it is refused.
@@ -189,9 +209,13 @@ impl Page {
                     return Ok(Some(index));
                 }
             };
+            let by = found.and_then(|_| self.by(index));
             match json {
-                false => put_line(&mut self.buffer, id, found),
-                true => self.buffer.extend(found_object(id, found).line().bytes()),
+                false => put_found(&mut self.buffer, id, found, by),
+                true => {
+                    let object = named(found_object(id, found), by);
+                    self.buffer.extend(object.line().bytes());
+                }
             }
         }
         out.write_all(&self.buffer)?;
@@ -201,18 +225,27 @@ impl Page {
 
 /// Puts the line of an id of a list, or of a pair that was found: its value and its ordinal.
 pub fn put_line(buffer: &mut Vec<u8>, id: u32, found: Option<(i64, u64)>) {
+    put_found(buffer, id, found, None);
+}
+
+/// The same with the column that spoke.
+fn put_found(buffer: &mut Vec<u8>, id: u32, found: Option<(i64, u64)>, by: Option<Layer>) {
     put(buffer, id.into());
-    match found {
-        None => buffer.extend_from_slice(b" absent\n"),
-        Some((value, ordinal)) => {
-            buffer.push(b' ');
-            if value < 0 {
-                buffer.push(b'-');
-            }
-            put(buffer, value.unsigned_abs());
-            buffer.extend_from_slice(b" ordinal ");
-            put(buffer, ordinal);
-            buffer.push(b'\n');
-        }
+    let Some((value, ordinal)) = found else {
+        buffer.extend_from_slice(b" absent\n");
+        return;
+    };
+    buffer.push(b' ');
+    if value < 0 {
+        buffer.push(b'-');
     }
+    put(buffer, value.unsigned_abs());
+    buffer.extend_from_slice(match by {
+        None => b"",
+        Some(Layer::Machine) => b" by machine",
+        Some(Layer::Correction) => b" by correction",
+    });
+    buffer.extend_from_slice(b" ordinal ");
+    put(buffer, ordinal);
+    buffer.push(b'\n');
 }

@@ -1,7 +1,7 @@
 //! The opened columns of the package: the one place where the tool uses them.
 
 use signalfern::{
-    Answer, Candidates, Column, Layer, Layered, LayeredAnswer, LayeredRefusal, Refusal,
+    Answer, Candidates, Column, Layer, Layered, LayeredAnswer, LayeredRefusal, Readout, Refusal,
 };
 
 use crate::failure::Failure;
@@ -35,18 +35,6 @@ impl<'a> Asked<'a> {
         self.0
     }
 
-    /// Looks a page of ids up, in any order.
-    pub fn look_up_page(&self, ids: &[u32], page: &mut Answers) -> Result<(), Refusal> {
-        page.resize(ids.len());
-        let Answers {
-            ordinals,
-            values,
-            kinds,
-        } = page;
-        let _ = self.0.look_up_page(ids, ordinals, values, kinds)?;
-        Ok(())
-    }
-
     pub fn candidates_from(&self, id: u32) -> Candidates<'a> {
         self.0.candidates_from(id)
     }
@@ -57,12 +45,14 @@ impl<'a> Asked<'a> {
     }
 }
 
-/// What is answered to a page of ids: a place for each in three lists.
+/// What is answered to a page of ids: a place for each in every list.
 #[derive(Default)]
 pub struct Answers {
     pub ordinals: Vec<u64>,
     pub values: Vec<i64>,
     pub kinds: Vec<u8>,
+    /// The numbers of the columns; of one column alone, that of the machine column.
+    pub columns: Vec<u8>,
 }
 
 impl Answers {
@@ -70,15 +60,58 @@ impl Answers {
         self.ordinals.resize(len, 0);
         self.values.resize(len, 0);
         self.kinds.resize(len, 0);
+        self.columns.resize(len, 0);
+    }
+}
+
+/// What can be asked for a page of ids, in any order.
+pub trait Paged {
+    /// Whether its answers name one of two columns.
+    const LAYERED: bool;
+
+    fn look_up_page(&self, ids: &[u32], page: &mut Answers) -> Result<(), Refusal>;
+}
+
+impl Paged for Asked<'_> {
+    const LAYERED: bool = false;
+
+    fn look_up_page(&self, ids: &[u32], page: &mut Answers) -> Result<(), Refusal> {
+        page.resize(ids.len());
+        let (ordinals, values) = (&mut page.ordinals, &mut page.values);
+        let page = self.0.look_up_page(ids, ordinals, values, &mut page.kinds);
+        page.map(|_| ())
+    }
+}
+
+impl Paged for Corrected<'_> {
+    const LAYERED: bool = true;
+
+    fn look_up_page(&self, ids: &[u32], page: &mut Answers) -> Result<(), Refusal> {
+        page.resize(ids.len());
+        let (ordinals, values) = (&mut page.ordinals, &mut page.values);
+        let (kinds, columns) = (&mut page.kinds, &mut page.columns);
+        let page = self.0.look_up_page(ids, ordinals, values, kinds, columns);
+        page.map(|_| ())
     }
 }
 
 /// A machine column with a correction on top.
-pub struct Corrected<'a>(Layered<'a>);
+pub struct Corrected<'a>(Layered<Column<'a>>);
 
 impl<'a> Corrected<'a> {
     pub fn look_up(&self, id: u32) -> Result<LayeredAnswer, LayeredRefusal> {
         self.0.look_up(id)
+    }
+
+    /// Reads pairs of both from an id on, as many as all lists have places.
+    pub fn read_from(
+        &self,
+        id: u32,
+        ids: &mut [u32],
+        values: &mut [i64],
+        columns: &mut [u8],
+    ) -> Result<Readout, LayeredRefusal> {
+        self.0.read_from(id, ids, values, columns)
     }
 
     /// The part of a file that holds the values among which the id's is.

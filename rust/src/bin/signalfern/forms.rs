@@ -1,5 +1,7 @@
 //! Pairs as people have them: lines, tables with a header line, and JSON lines.
 
+use signalfern::Layer;
+
 use crate::arguments::Arguments;
 use crate::failure::Failure;
 use crate::json::put_string;
@@ -20,11 +22,15 @@ pub enum Form {
 const ID: &str = "id";
 const VALUE: &str = "value";
 const SCORE: &str = "score";
+/// What the column is called that names one of two columns.
+const BY: &str = "by";
 
 /// A form, and the names of its two columns or members.
 pub struct Layout {
     pub form: Form,
     names: Option<(String, String)>,
+    /// Whether a pair that is printed names the column that it came from.
+    by: bool,
     /// Of a table, its separator and where id and value stand, after its header line was met.
     places: Option<(u8, usize, usize)>,
 }
@@ -66,8 +72,14 @@ impl Layout {
         Ok(Self {
             form,
             names,
+            by: false,
             places: None,
         })
+    }
+
+    /// The same with the column that each pair came from.
+    pub fn with_columns(self, by: bool) -> Self {
+        Self { by, ..self }
     }
 
     /// The pair of a line, or none if it holds none. The first line of a table names its columns.
@@ -200,28 +212,41 @@ impl Layout {
             true => format!("\"{}\"", name.replace('"', "\"\"")),
             false => name.to_string(),
         };
+        let by = match self.by {
+            true => format!("{separator}{BY}"),
+            false => String::new(),
+        };
         format!(
-            "{}{separator}{}\n",
+            "{}{separator}{}{by}\n",
             field(self.id_name()),
             field(self.value_name())
         )
     }
 
-    /// What stands before an id, between it and its value, and after that: in each pair the same.
-    pub fn around(&self) -> [String; 3] {
+    /// What stands before an id, between it and its value, and after that: in each pair the same, but for the
+    /// column that it came from, where that is told.
+    pub fn around(&self, layer: Layer) -> [String; 3] {
         let quoted = |name: &str| {
             let mut out = String::new();
             put_string(&mut out, name);
             out
         };
+        let by = |before: &str, after: &str| match self.by {
+            true => format!("{before}{layer}{after}"),
+            false => String::new(),
+        };
+        let fields = |separator: &str| {
+            let end = by(separator, "") + "\n";
+            [String::new(), separator.to_string(), end]
+        };
         match self.form {
-            Form::Lines => ["", " ", "\n"].map(String::from),
-            Form::Csv => ["", ",", "\n"].map(String::from),
-            Form::Tsv => ["", "\t", "\n"].map(String::from),
+            Form::Lines => fields(" "),
+            Form::Csv => fields(","),
+            Form::Tsv => fields("\t"),
             Form::Json => [
                 format!("{{{}:", quoted(self.id_name())),
                 format!(",{}:\"", quoted(self.value_name())),
-                "\"}\n".to_string(),
+                format!("\"{}}}\n", by(&format!(",\"{BY}\":\""), "\"")),
             ],
         }
     }

@@ -126,30 +126,21 @@ impl Asking<'_> {
         }
     }
 
-    /// With a correction on top ids are asked for one by one.
     fn batch(&mut self, out: &mut dyn Write, batch: &Batch, page: &mut Page) -> io::Result<()> {
         let mut above = batch.above.iter().peekable();
-        let Source::Column(asked) = &self.source else {
-            for (index, &id) in batch.ids.iter().enumerate() {
-                let said = above.next_if(|(at, _)| *at == index);
-                self.one(out, id, said.map(|(_, said)| said.as_str()))?;
-            }
-            return Ok(());
+        // By opened columns an id is refused by itself, and never the page.
+        let asked = match &self.source {
+            Source::Column(asked) => page.ask(asked, &batch.ids),
+            Source::Corrected(layers) => page.ask(layers, &batch.ids),
         };
-        // By an opened column an id is refused by itself, and never the page.
-        let asked = page.ask(asked, &batch.ids);
         asked.map_err(|refusal| io::Error::other(refusal.to_string()))?;
         let mut from = 0;
         while let Some(index) = page.put(out, &batch.ids, from, self.json)? {
             let said = above.next_if(|(at, _)| *at == index);
-            let refusal = page.refusal(index);
+            let (layer, refusal) = page.refusal(index);
             out.flush()?;
-            self.refuse(
-                batch.ids[index],
-                Layer::Machine,
-                refusal,
-                said.map(|(_, it)| it.as_str()),
-            );
+            let said = said.map(|(_, it)| it.as_str());
+            self.refuse(batch.ids[index], layer, refusal, said);
             from = index + 1;
         }
         Ok(())

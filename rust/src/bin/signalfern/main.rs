@@ -35,6 +35,7 @@ mod input;
 mod json;
 mod json_lines;
 mod judge;
+mod layers;
 mod lines;
 mod load;
 mod look_up;

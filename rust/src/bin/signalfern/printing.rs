@@ -42,10 +42,24 @@ impl<'a> Printer<'a> {
     }
 
     pub fn pair(&mut self, id: u32, value: i64) -> io::Result<()> {
+        self.begin(id, value)?;
+        self.buffer.extend_from_slice(self.around[2].as_bytes());
+        Ok(())
+    }
+
+    /// A pair with other words after it, no longer than those of the form.
+    pub fn pair_with(&mut self, id: u32, value: i64, after: &str) -> io::Result<()> {
+        self.begin(id, value)?;
+        self.buffer.extend_from_slice(after.as_bytes());
+        Ok(())
+    }
+
+    #[inline]
+    fn begin(&mut self, id: u32, value: i64) -> io::Result<()> {
         if self.buffer.len() + self.longest > PIECE {
             self.hand_on()?;
         }
-        let [before, between, after] = &self.around;
+        let [before, between, _] = &self.around;
         self.buffer.extend_from_slice(before.as_bytes());
         put(&mut self.buffer, u64::from(id));
         self.buffer.extend_from_slice(between.as_bytes());
@@ -53,7 +67,6 @@ impl<'a> Printer<'a> {
             self.buffer.push(b'-');
         }
         put(&mut self.buffer, value.unsigned_abs());
-        self.buffer.extend_from_slice(after.as_bytes());
         self.done += 1;
         Ok(())
     }

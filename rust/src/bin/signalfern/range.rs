@@ -2,8 +2,10 @@
 
 use std::io;
 
-use signalfern::MAX_ID;
+use signalfern::{Layer, LayeredRefusal, MAX_ID};
 
+use crate::forms::Layout;
+use crate::layers::Layers;
 use crate::printing::Printer;
 use crate::scan::{Scan, Stop};
 
@@ -35,3 +37,27 @@ pub fn print(scan: &Scan, wanted: Wanted, printer: &mut Printer) -> io::Result<R
     }
     Ok(Ok(()))
 }
+
+/// The same of a column with a correction on top.
+pub fn print_layers(
+    layers: &Layers,
+    wanted: Wanted,
+    layout: &Layout,
+    printer: &mut Printer,
+) -> io::Result<Result<(), LayeredRefusal>> {
+    let after = LAYERS.map(|layer| layout.around(layer)[2].clone());
+    let limit = usize::try_from(wanted.limit).unwrap_or(usize::MAX);
+    for pair in layers.pairs_from(wanted.from).take(limit) {
+        match pair {
+            Err(refused) => return Ok(Err(refused)),
+            Ok((id, ..)) if id > wanted.to => break,
+            Ok((id, value, layer)) => {
+                printer.pair_with(id, value, &after[usize::from(layer.number())])?;
+            }
+        }
+    }
+    Ok(Ok(()))
+}
+
+/// The two columns by their numbers.
+const LAYERS: [Layer; 2] = [Layer::Machine, Layer::Correction];

@@ -76,6 +76,7 @@ pub const READ: &[Field] = &[
         Long,
         "its value; both members are named by --columns, if that is given",
     ),
+    field("by", Text, "with --by, machine or correction"),
 ];
 
 pub const LOOK_UP: &[Field] = &[
@@ -97,7 +98,7 @@ pub const LOOK_UP: &[Field] = &[
     field(
         "machine_words",
         Number,
-        "with --correction, the words of COLUMN",
+        "with --correction, the words of COLUMN, of an id on the command line",
     ),
     field("correction_words", Number, "and those of the correction"),
 ];

@@ -7,7 +7,7 @@ use crate::given::{bytes, Numbers};
 use crate::samples::{self, MAX_ID};
 
 /// What it is about, machine column, correction, and ids.
-type Asked = (String, Vec<u8>, Vec<u8>, Vec<u32>);
+pub type Asked = (String, Vec<u8>, Vec<u8>, Vec<u32>);
 
 /// Two columns and ids to ask for.
 pub fn pairs() -> Vec<Asked> {
@@ -62,7 +62,7 @@ pub fn pairs() -> Vec<Asked> {
 }
 
 /// One of the two refused.
-fn refused() -> Vec<Asked> {
+pub fn refused() -> Vec<Asked> {
     let small = samples::small();
     let (first, table) = (&small[4].bytes, &small[19].bytes);
     let broken = &put(first, 12, &[3]);
@@ -113,10 +113,8 @@ fn damaged() -> Vec<Asked> {
     made
 }
 
-fn each(vectors: &mut Vectors, step: usize) {
-    for (index, (about, machine, correction, ids)) in
-        [pairs(), refused()].concat().into_iter().enumerate()
-    {
+fn each(vectors: &mut Vectors, columns: Vec<Asked>, step: usize) {
+    for (index, (about, machine, correction, ids)) in columns.into_iter().enumerate() {
         for asked in ids.into_iter().skip(index % step).step_by(step) {
             let given = [
                 ("machine", bytes(&machine)),
@@ -129,9 +127,11 @@ fn each(vectors: &mut Vectors, step: usize) {
 }
 
 pub fn look_up_layered(vectors: &mut Vectors) {
-    each(vectors, 1);
+    each(vectors, pairs(), 1);
+    each(vectors, refused(), 1);
 }
 
 pub fn layered_values(vectors: &mut Vectors) {
-    each(vectors, 2);
+    each(vectors, pairs(), 8);
+    each(vectors, refused(), 2);
 }

@@ -2,6 +2,7 @@
 //! [`Maker`](crate::Maker).
 
 mod asking;
+mod in_layers;
 mod judging;
 mod layered;
 mod opened;
@@ -16,6 +17,7 @@ mod writing;
 use std::collections::HashSet;
 
 use crate::given::{number, object, text};
+use crate::reply::with;
 use crate::{answer, Json, Reference};
 
 /// The vectors of one call under way.
@@ -28,7 +30,20 @@ pub struct Vectors {
 impl Vectors {
     /// One more, answered by the reference; arguments that were given before are passed over.
     pub fn add<const N: usize>(&mut self, about: &str, given: [(&str, Json); N]) {
-        let given = object(given);
+        self.put(about, object(given));
+    }
+
+    /// The same with the arguments in two parts.
+    pub fn add_all<const N: usize, const M: usize>(
+        &mut self,
+        about: &str,
+        given: [(&str, Json); N],
+        more: [(&str, Json); M],
+    ) {
+        self.put(about, with(object(given), more));
+    }
+
+    fn put(&mut self, about: &str, given: Json) {
         if !self.given.insert(given.to_string()) {
             return;
         }
@@ -55,7 +70,7 @@ pub fn id(id: u32) -> Json {
 /// Makes the vectors of a call.
 type Make = fn(&mut Vectors);
 
-const CALLS: [(&str, Make); 26] = [
+const CALLS: [(&str, Make); 30] = [
     ("write", writing::write),
     ("write_planned", planning::write_planned),
     ("plan", planning::plan),
@@ -82,6 +97,13 @@ const CALLS: [(&str, Make); 26] = [
     ("read_from_in", walking::read_from_in),
     ("pair_at_in", walking::pair_at_in),
     ("first_between_from_in", walking::first_between_from_in),
+    ("look_up_layered_page", in_layers::look_up_layered_page),
+    ("read_layered_from", in_layers::read_layered_from),
+    (
+        "look_up_layered_page_in",
+        in_layers::look_up_layered_page_in,
+    ),
+    ("read_layered_from_in", in_layers::read_layered_from_in),
 ];
 
 /// Every file of vectors, its name and its text.

@@ -23,7 +23,7 @@ pub fn given(header: &Header) -> Json {
     object(numbers_of(header))
 }
 
-fn header(bytes: &[u8]) -> Header {
+pub fn header(bytes: &[u8]) -> Header {
     Reference.open(bytes).expect("a column")
 }
 
@@ -63,7 +63,7 @@ const CHANGES: [(&str, fn(&mut Header)); 19] = [
 pub const BROKEN: &str = "a step fails";
 
 /// A column of edition 3 whose run has a width of 65, and one of edition 1 with more ids than n.
-fn broken() -> [Vec<u8>; 2] {
+pub fn broken() -> [Vec<u8>; 2] {
     let small = samples::small();
     [
         put(&small[6].bytes, 49, &[65]),

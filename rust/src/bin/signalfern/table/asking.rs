@@ -19,7 +19,8 @@ pub const LOOK_UP: Command = Command {
          are printed, and the status is 1. From a terminal or a pipe each line is answered as it comes.",
         "With --correction a second column lies on top: it answers for the ids that it holds, and \
          COLUMN for all others. A line then names the column that spoke, `by correction` or `by \
-         machine`, whose ordinal it is, and has the words of each; probes are not told.",
+         machine`, whose ordinal it is, and for an id on the command line has the words of each; probes \
+         are not told.",
         "The column is checked first, and so is a correction: a damaged one could give a wrong value.",
     ],
     options: &[

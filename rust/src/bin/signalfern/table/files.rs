@@ -1,6 +1,8 @@
 //! Commands that make columns, and tell of whole ones.
 
-use super::options::{COLUMNS, FORMAT, HTML, JSON_LINES, ONE_DIGEST, POWERS};
+use super::options::{
+    COLUMNS, CORRECTION, CORRECTION_DIGEST, FORMAT, HTML, JSON_LINES, ONE_DIGEST, POWERS,
+};
 use super::SOUND;
 use crate::command::{flag, option, Command, Value};
 use crate::schema;
@@ -136,14 +138,16 @@ pub const CHECK: Command = Command {
 
 pub const READ: Command = Command {
     name: "read",
-    words: "COLUMN [-o FILE] [--from ID] [--to ID] [--limit N] [--format FORM] [--columns ID,VALUE] \
-            [--digest HEX] [--force] [--json]",
+    words: "COLUMN [-o FILE] [--from ID] [--to ID] [--limit N] [--correction FILE] [--by] \
+            [--format FORM] [--columns ID,VALUE] [--digest HEX] [--force] [--json]",
     summary: "print its pairs as lines `ID VALUE`",
     text: &[
         "Prints the pairs of a column as lines `ID VALUE`, as a table, or as JSON lines. The whole column \
          is checked before the first line. Pairs are printed as they are read, some at a time, in little \
          memory whatever the column holds. Where all are printed and they are not as many as the header \
          tells of, that is said, and the status is 1.",
+        "With --correction the pairs of both columns are printed, in the order of the ids: the correction's, \
+         where both hold an id. --by adds the column that each came from, machine or correction.",
     ],
     options: &[
         option(
@@ -155,6 +159,13 @@ pub const READ: Command = Command {
         option(None, "from", ("ID", Value::Other), "begin with this id"),
         option(None, "to", ("ID", Value::Other), "end with this id"),
         option(None, "limit", ("N", Value::Other), "at most so many pairs"),
+        CORRECTION,
+        CORRECTION_DIGEST,
+        flag(
+            None,
+            "by",
+            "with --correction: after each value the column that it came from",
+        ),
         option(
             None,
             "format",

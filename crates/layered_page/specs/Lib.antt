@@ -1,0 +1,3 @@
+-- What the code of a layered page stands for.
+pub mod Absent
+pub mod Pages
