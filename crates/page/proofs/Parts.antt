@@ -36,8 +36,14 @@ total-join f i (suc n) =
 module _ {h : Held} {k : ℕ} {l m : Lists} (t : Stored h k (l .ordinals) (m .ordinals) (l .values) (m .values) (l .kinds) (m .kinds)) where
   pub other : (j w : ℕ) → (j ≡ k → ⊥) → placeIn m j w ≡ placeIn l j w
   other j w n =
-      rw (t .ordinal, t .value, t .kind, getD-set-other (l .ordinals) k j (h .ordinal) 0 n, getD-set-other (l .values) k j (h .value) (pos 0) n,
-        getD-set-other (l .kinds) k j (h .kind) 0 n) refl
+      rw (
+        t .ordinal,
+        t .value,
+        t .kind,
+        getD-set-other (l .ordinals) k j (h .ordinal) 0 n,
+        getD-set-other (l .values) k j (h .value) (pos 0) n,
+        getD-set-other (l .kinds) k j (h .kind) 0 n,
+      ) refl
 
   pub keeps : Kept l m
   keeps =
@@ -50,8 +56,14 @@ module _ {h : Held} {k : ℕ} {l m : Lists} (t : Stored h k (l .ordinals) (m .or
   module _ (a : k < length (l .ordinals)) (b : k < length (l .values)) (c : k < length (l .kinds)) where
     pub here : (w : ℕ) → placeIn m k w ≡ record { ordinal = h .ordinal; kind = h .kind; value = h .value; words = w }
     here w =
-        rw (t .ordinal, t .value, t .kind, getD-set-same (l .ordinals) k (h .ordinal) 0 a, getD-set-same (l .values) k (h .value) (pos 0) b,
-          getD-set-same (l .kinds) k (h .kind) 0 c) refl
+        rw (
+          t .ordinal,
+          t .value,
+          t .kind,
+          getD-set-same (l .ordinals) k (h .ordinal) 0 a,
+          getD-set-same (l .values) k (h .value) (pos 0) b,
+          getD-set-same (l .kinds) k (h .kind) 0 c,
+        ) refl
 
 pub kept-both : {l m n : Lists} → Kept l m → Kept m n → Kept l n
 kept-both p q =

@@ -247,13 +247,44 @@ fn fill_part(
 {
     let e = part.end;
     if !part.run {
-        return fill_any(ordinals, values, kinds, ids, from, e, bytes, column, counted);
+        return fill_any(
+            ordinals,
+            values,
+            kinds,
+            ids,
+            from,
+            e,
+            bytes,
+            column,
+            counted,
+        );
     }
     let way = runs::way_of(bytes, column, ids[from], e - from);
     let Step::At(block) = way else {
-        return fill_any(ordinals, values, kinds, ids, from, e, bytes, column, counted);
+        return fill_any(
+            ordinals,
+            values,
+            kinds,
+            ids,
+            from,
+            e,
+            bytes,
+            column,
+            counted,
+        );
     };
-    fill_run(ordinals, values, kinds, ids, from, e, bytes, column, block, counted)
+    fill_run(
+        ordinals,
+        values,
+        kinds,
+        ids,
+        from,
+        e,
+        bytes,
+        column,
+        block,
+        counted,
+    )
 }
 
 // Stores the answer of each id, part after part, in lists that have room, and hands back the sum of words modulo 2^64.

@@ -19,6 +19,10 @@ ghost use Rattle.page.specs.Marks.{withValue, markOf, marked, Listed};
 ghost use Rattle.page.specs.Openings.{lookBy, Sound};
 ghost use Rattle.page.specs.Placed.{Holds};
 ghost use Rattle.page.specs.Runs.{Run, Climbs, Ready, Reached, ReadyIn, ReachedIn, Way, WayIs};
+use super::Held;
+use super::absent;
+use super::marks::Mark;
+use super::refused;
 use answers::Refusal;
 use blocks::Block;
 use blocks::Kind;
@@ -27,10 +31,6 @@ use lookup::Step;
 use scaled_values::Slotted;
 use values::Edition;
 use values::Fetched;
-use super::marks::Mark;
-use super::Held;
-use super::absent;
-use super::refused;
 
 // ---- which ids are a run
 
@@ -70,10 +70,7 @@ pub fn part_at(ids: &[u32], i: usize) -> Part
     let n = ids.len();
     let e = run_end(ids, i);
     if 16 < e - i {
-        return Part {
-            end: e,
-            run: true,
-        };
+        return Part { end: e, run: true };
     }
     if 1024 < n - i {
         return Part {
@@ -81,10 +78,7 @@ pub fn part_at(ids: &[u32], i: usize) -> Part
             run: false,
         };
     }
-    Part {
-        end: n,
-        run: false,
-    }
+    Part { end: n, run: false }
 }
 
 // ---- a sparse block's entries
@@ -220,7 +214,8 @@ fn plain_valued(bytes: &[u8], column: Column, ordinal: u64, words: u64) -> Held
     let fields = head.fields;
     let slot: Slotted = values::slot_of(section, Edition::Plain, head.count, fields, ordinal);
     let stored = super::fetching::plain_in(section, slot);
-    let Fetched::Value(value) = values::value_of(section, Edition::Plain, fields, slot, stored) else {
+    let Fetched::Value(value) = values::value_of(section, Edition::Plain, fields, slot, stored)
+    else {
         return refused(Refusal::Broken);
     };
     Held {

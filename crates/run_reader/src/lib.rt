@@ -132,15 +132,7 @@ fn draw_run(
         smallest: signed::number_of(x.smallest),
         divisor,
     };
-    draw_numbers(
-        values,
-        &section[at..after],
-        count,
-        fields,
-        k,
-        from,
-        end,
-    )
+    draw_numbers(values, &section[at..after], count, fields, k, from, end)
 }
 
 // The values of the ordinals from x on, of n, into places `from` to `end`, as far as x's run goes and up to the first that has none. Says where
