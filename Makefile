@@ -12,7 +12,7 @@
 # and no Rattle kit. On x86-64 the shared library is built twice, for every processor and for
 # x86-64-v3; the loader takes the second by itself where the processor has that level.
 #
-# With PROVE=1 `rt` proves the library and builds it from its source. With SIGNALFERN_LIB_DIR=DIR the
+# With PROVE=1 the kit proves the library and builds it from its source (dist/prove). With SIGNALFERN_LIB_DIR=DIR the
 # libsignalfern_c.a in that folder is taken as it is. With TOOL=FILE a tool that was built before is
 # installed, and `cargo` is not needed.
 
@@ -44,6 +44,7 @@ VERSION := $(MAJOR).$(MINOR).$(call version_part,PATCH)
 # Before 1.0 a minor version may change the structs.
 SONAME := libsignalfern.so.$(if $(filter 0,$(MAJOR)),0.$(MINOR),$(MAJOR))
 SHARED := libsignalfern.so.$(VERSION)
+# (Nothing below $(BUILD) is a link: `rt ci` refuses a checkout that has one.)
 
 # The file of dist/ for a machine, as the compiler names it, and the level that gets a library of its own.
 PROCESSOR := $(patsubst x86_64,x86-64,$(firstword $(subst -, ,$(shell $(CC) -dumpmachine))))
@@ -59,11 +60,10 @@ library: $(BUILD)/libsignalfern.a $(BUILD)/$(SHARED) $(LEVEL:%=$(BUILD)/%/$(SHAR
 ifneq ($(SIGNALFERN_LIB_DIR),)
 ARCHIVE = $(SIGNALFERN_LIB_DIR)/libsignalfern_c.a
 else ifneq ($(filter-out 0,$(PROVE)),)
-ARCHIVE = target/staticlib/libsignalfern_c.a
-$(ARCHIVE): crates.txt $(shell find crates -name '*.rt' -o -name '*.antt')
+ARCHIVE = target/proved/$(PROCESSOR)/libsignalfern_c.a
+$(ARCHIVE): crates.txt $(shell find crates -name out -prune -o \( -name '*.rt' -o -name '*.antt' \) -print)
 	@command -v rt >/dev/null || { echo 'rt is not on the path: proving needs the Rattle kit. Without PROVE=1, dist/ is taken.' >&2; exit 1; }
-	rt check signalfern
-	rt staticlib signalfern_c
+	dist/prove target/proved $(PROCESSOR)
 else
 ARCHIVE = $(BUILD)/$(PROCESSOR)/libsignalfern_c.a
 endif
@@ -103,7 +103,7 @@ $(BUILD)/x86-64-v3/$(SHARED): $(BUILD)/x86-64-v3/libsignalfern_c.a $(BUILD)/name
 	$(link_shared)
 
 $(BUILD)/signalfern.so: sqlite/signalfern.c include/signalfern.h $(BUILD)/$(SHARED)
-	ln -sf $(SHARED) $(BUILD)/$(SONAME)
+	cp $(BUILD)/$(SHARED) $(BUILD)/$(SONAME)
 	$(CC) $(CPPFLAGS) $(CFLAGS) -std=c11 -Wall -Wextra -Wpedantic -fPIC -fvisibility=hidden -Iinclude $(LDFLAGS) -shared -Wl,-z,defs \
 	    -Wl,-rpath,'$$ORIGIN' $< $(BUILD)/$(SHARED) -o $@
 
@@ -183,7 +183,7 @@ check: library
 	$(CC) $(CFLAGS) -Iinclude rust/tests/library/installed.c $(BUILD)/libsignalfern.a -o $(BUILD)/by-archive
 	$(BUILD)/by-archive >/dev/null
 	$(CC) $(CFLAGS) -Iinclude rust/tests/library/installed.c $(BUILD)/$(SHARED) -Wl,-rpath,'$(abspath $(BUILD))' -o $(BUILD)/by-library
-	ln -sf $(SHARED) $(BUILD)/$(SONAME)
+	cp $(BUILD)/$(SHARED) $(BUILD)/$(SONAME)
 	$(BUILD)/by-library >/dev/null
 	dist/check $(BUILD)/libsignalfern.a
 

@@ -1,7 +1,7 @@
 //! Provides `libsignalfern_c.a`, the archive of the proved calls, to the linker.
 //!
 //! - As it is, it assembles `dist/`: the text that was made from the proved library. That takes a C compiler and a second, and no Rattle kit.
-//! - With `SIGNALFERN_PROVE=1` it has `rt` prove the library in the repository around this package, and build it: some minutes.
+//! - With `SIGNALFERN_PROVE=1` it has the kit prove the library in the repository around this package, and build it: some minutes.
 //! - With `SIGNALFERN_LIB_DIR` it takes the archive in that folder. A relative folder counts from the repository's root, as it does for `make`.
 
 use std::ffi::OsString;
@@ -24,10 +24,12 @@ fn main() {
     if let Some(folder) = chosen("SIGNALFERN_LIB_DIR") {
         take(&root.join(folder).join(ARCHIVE), &archive);
     } else if chosen("SIGNALFERN_PROVE").is_some_and(|word| word != "0") {
-        // A copy, since `rt ci` removes the repository's target folder.
-        take(&prove(root), &archive);
+        take(&prove(root, &out_dir), &archive);
     } else {
-        assemble(&package.join("dist"), &out_dir, &archive);
+        // A package of its own has the folder in itself (`packaging/crate`).
+        let own = package.join("dist");
+        let dist = if own.is_dir() { own } else { root.join("dist") };
+        assemble(&dist, &out_dir, &archive);
     }
     compare_version(&archive);
     println!("cargo:rustc-link-search=native={}", out_dir.display());
@@ -135,18 +137,28 @@ fn cross(tool: &str, native: bool, plain: &str) -> String {
     }
 }
 
-fn prove(root: &Path) -> PathBuf {
-    for source in ["crates", "crates.txt"] {
-        println!("cargo:rerun-if-changed={}", root.join(source).display());
+fn prove(root: &Path, out_dir: &Path) -> PathBuf {
+    println!(
+        "cargo:rerun-if-changed={}",
+        root.join("crates.txt").display()
+    );
+    for entry in fs::read_dir(root.join("crates")).into_iter().flatten() {
+        // (`rt` writes into a crate's folder `out`)
+        let parts = entry
+            .into_iter()
+            .flat_map(|entry| ["src", "specs", "proofs"].map(|part| entry.path().join(part)));
+        for part in parts.filter(|part| part.is_dir()) {
+            println!("cargo:rerun-if-changed={}", part.display());
+        }
     }
-    // Alone, `rt staticlib` would prove the crates below one after the other; `rt check` proves them side by side.
-    for words in [["check", "signalfern"], ["staticlib", "signalfern_c"]] {
-        run(
-            Command::new("rt").args(words).current_dir(root),
-            "proves and builds the library",
-        );
-    }
-    root.join("target/staticlib").join(ARCHIVE)
+    let proved = out_dir.join("proved");
+    run(
+        Command::new(root.join("dist/prove"))
+            .arg(&proved)
+            .arg(processor()),
+        "proves and builds the library",
+    );
+    proved.join(processor()).join(ARCHIVE)
 }
 
 fn run(command: &mut Command, what: &str) {

@@ -1,5 +1,6 @@
 -- The paper's numbers and values for each case of the library's enums. Assumes nothing.
-use Rattle.format.specs.Kit.{ℕ, ◌≡◌, Bool, true, false, Option, none, some, ℤ}
+use Rattle.std.specs.Prelude.{◌≡◌}
+use Rattle.format.specs.Kit.{ℕ, Bool, true, false, Option, none, some, ℤ}
 use Rattle.format.specs.Codec.{Fields}
 use Rattle.format.specs.Refusals.{Outcome, done, refused, LENGTHS, POWER, ORDER, RANGE, ROOM}
 use Rattle.format.specs.Refusals.{SHORT, NUMBER, EDITION, HEADER, LENGTH, BUFFER, DAMAGED, ID, BROKEN, BACK, PLAN}

@@ -1,6 +1,7 @@
 -- The words in which a column and each call's answer cross the C boundary: include/signalfern.h names the same words. Those that a case
 -- leaves free are 0, and a value is in two's complement. Assumes nothing.
-use Rattle.format.specs.Kit.{ℕ, ◌+◌, Bool, cond, eqb, List, [], ◌∷◌, get_or, Option, none, some}
+use Rattle.std.specs.Prelude.{◌+◌, ◌∷◌}
+use Rattle.format.specs.Kit.{ℕ, Bool, cond, eqb, List, [], get_or, Option, none, some}
 use Rattle.format.specs.Limits.{max_width}
 use Rattle.format.specs.Bytes.{twos}
 use Rattle.format.specs.Refusals.{Outcome, done, refused}

@@ -1,12 +1,14 @@
 // The types of the library's answers, and those that its crates hand to each other; specs/Replies.antt gives the paper's number and values for
 // each of their cases.
+#![tactic(auto)]
+
 ghost use Rattle.std.specs.Prelude.{◌≡◌};
 ghost use Rattle.format.specs.Next.{new_cursor};
 ghost use Rattle.answers.specs.Replies.{refusal_number, refusal_with, reason_number};
 
 // Document 01's refusals, and document 02's BACK ([1]) and PLAN ([12]), each with the number that goes with it, where that is not always 0; for SHORT and
 // NUMBER it is document 02's ([4]). There is no OFFSET, which cannot happen (document 02, [7]).
-#[derive(Drop)]
+#[derive(Clone, Copy)]
 pub enum Refusal {
     Lengths,
     Power,
@@ -27,14 +29,14 @@ pub enum Refusal {
 }
 
 // What the writer (its byte count), the check and the reading (n) answer.
-#[derive(Drop)]
+#[derive(Clone, Copy)]
 pub enum Reply {
     Done(u64),
     Refused(Refusal),
 }
 
 // What a look-up answers.
-#[derive(Drop)]
+#[derive(Clone, Copy)]
 pub enum Answer {
     Found {
         ordinal: u64,
@@ -55,7 +57,7 @@ pub const FOUND: u64 = 0;
 pub const ABSENT: u64 = 1;
 
 // The last target that was answered (document 02, [1]). Any is fit.
-#[derive(Drop)]
+#[derive(Clone, Copy)]
 pub struct Cursor {
     pub last: u64,
 }
@@ -70,7 +72,7 @@ impl Cursor {
 }
 
 // The next listed id, none, or a refusal.
-#[derive(Drop)]
+#[derive(Clone, Copy)]
 pub enum Candidate {
     Found { id: u32, ordinal: u64, value: i64 },
     Nothing,
@@ -78,14 +80,14 @@ pub enum Candidate {
 }
 
 // What a call for the next candidate answers, with the cursor afterwards.
-#[derive(Drop)]
+#[derive(Clone, Copy)]
 pub struct Next {
     pub cursor: Cursor,
     pub candidate: Candidate,
 }
 
 // Pairs from an id on: so many, above which more are listed (or a step fails); so many, and no listed id is left; or a refusal.
-#[derive(Drop)]
+#[derive(Clone, Copy)]
 pub enum Readout {
     More(u64),
     Ended(u64),
@@ -93,7 +95,7 @@ pub enum Readout {
 }
 
 // The first ordinal with a value in a range, none, or a refusal (document 02, [11]).
-#[derive(Drop)]
+#[derive(Clone, Copy)]
 pub enum Between {
     Found(u64),
     Nothing,
@@ -101,7 +103,7 @@ pub enum Between {
 }
 
 // What membership in a set on disk answers (document 02, [14]): the id's ordinal, or that it is not there.
-#[derive(Drop)]
+#[derive(Clone, Copy)]
 pub enum Member {
     Found(u64),
     Absent,
@@ -110,14 +112,14 @@ pub enum Member {
 
 // The byte order of an id section's shorts, ints and longs (document 02, [9]): low byte first as Lucene 9 writes them, or high byte first
 // as Lucene 8 does.
-#[derive(Drop)]
+#[derive(Clone, Copy)]
 pub enum ByteOrder {
     LowFirst,
     HighFirst,
 }
 
 // Why an id section is faulty, in the order in which document 02, [9] tests it.
-#[derive(Drop)]
+#[derive(Clone, Copy)]
 pub enum Reason {
     CutOff,
     BlockOrder,
@@ -131,7 +133,7 @@ pub enum Reason {
 
 // What the judge of an id section answers: the number of ids; a reason and the fault's place in the section; or that the entry count or
 // the power is outside document 01's limits.
-#[derive(Drop)]
+#[derive(Clone, Copy)]
 pub enum Judgement {
     Accepted(u64),
     Faulty(Reason, u64),
@@ -139,7 +141,7 @@ pub enum Judgement {
 }
 
 // What the header says of the values, in the words of its edition: the numbers 6 to 8 (the smallest value as its header number).
-#[derive(Drop)]
+#[derive(Clone, Copy)]
 pub struct Fields {
     pub width: u64,
     pub smallest: u64,
@@ -147,7 +149,7 @@ pub struct Fields {
 }
 
 // The value of an ordinal, or that there is none: it does not fit in 64 bits, or its number is not in the section.
-#[derive(Drop)]
+#[derive(Clone, Copy)]
 pub enum Fetched {
     Value(i64),
     Outside,

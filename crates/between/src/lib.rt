@@ -1,4 +1,6 @@
 // The first value in a range, in a column of edition 3 (document 02, [11]), from an ordinal on.
+#![tactic(auto)]
+
 ghost use Rattle.std.specs.Prelude.{◌≡◌, true, cond, [], ◌∷◌};
 ghost use Rattle.format.specs.Refusals.{refused, EDITION};
 ghost use Rattle.format.specs.Editions.{runs, editions};

@@ -1,5 +1,6 @@
 -- What the functions over one block's ids say. Assumes nothing.
-use Rattle.format.specs.Kit.{◌≡◌, List, map, ◌++◌, ℕ, ◌+◌, ◌*◌, ◌/◌, ◌%◌, ◌^◌, ◌≤◌, length, get_or, drop}
+use Rattle.std.specs.Prelude.{◌≡◌, ◌++◌, ◌+◌, ◌*◌, ◌/◌, ◌%◌, ◌^◌, ◌≤◌}
+use Rattle.format.specs.Kit.{List, map, ℕ, length, get_or, drop}
 use Rattle.format.specs.Limits.{block_places, bitmap_bytes}
 use Rattle.format.specs.Bytes.{low}
 use Rattle.format.specs.Ids.{Run, rank_table, bitmap}

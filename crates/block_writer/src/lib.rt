@@ -1,4 +1,6 @@
 // One block of ids: its head, and then places, or ranks and words, or nothing (document 01, "Id section").
+#![tactic(auto)]
+
 ghost use Rattle.std.specs.Prelude.{◌≡◌, ◌+◌, ◌-◌, ◌*◌, ◌/◌, ◌%◌, ◌^◌, ◌≤◌, ◌<◌, ◌++◌, length};
 ghost use Rattle.std.proofs.lemmas.List.Edits.{sets};
 ghost use Rattle.std.specs.Int.Count.{ones};
@@ -27,7 +29,7 @@ pub fn put_sparse(part: &[u32], out: &mut [u8], at: usize)
 
 // ---- dense
 
-#[derive(Drop)]
+#[derive(Clone, Copy)]
 struct Word {
     pub bits: u64,
     pub next: usize,
@@ -51,7 +53,7 @@ fn word_of(part: &[u32], from: usize, k: usize) -> Word
     Word { bits, next: m }
 }
 
-#[derive(Drop)]
+#[derive(Clone, Copy)]
 struct Laid {
     pub ones: u64,
     pub next: usize,

@@ -1,4 +1,6 @@
 // A block of the id section: its kind, its sizes, the ones of its longs (document 01, "Id section").
+#![tactic(auto)]
+
 ghost use Rattle.std.specs.Prelude.{◌≡◌, ◌+◌, ◌-◌, ◌*◌, ◌/◌, ◌%◌, ◌^◌, ◌≤◌, ◌<◌, length};
 ghost use Rattle.std.specs.Int.Count.{ones, ones_in};
 ghost use Rattle.format.specs.Limits.{Power, block_places, bitmap_longs};
@@ -8,7 +10,7 @@ ghost use Rattle.format.specs.LookUp.{ones_from};
 ghost use Rattle.blocks.specs.Kinds.{kind_is};
 
 // How a block's ids are kept.
-#[derive(Drop)]
+#[derive(Clone, Copy)]
 pub enum Kind {
     Sparse,
     Dense,
@@ -16,7 +18,7 @@ pub enum Kind {
 }
 
 // A block's kind travels with its place and its count: where its data start, the ids before it, how many it has.
-#[derive(Drop)]
+#[derive(Clone, Copy)]
 pub struct Block {
     pub start: usize,
     pub ordinal: u64,

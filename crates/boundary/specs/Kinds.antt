@@ -1,5 +1,5 @@
 -- The kinds of a look-up's answer, on the way to that of two. Assumes nothing.
-use Rattle.format.specs.Kit.{◌<◌}
+use Rattle.std.specs.Prelude.{◌<◌}
 use Rattle.format.specs.Refusals.{Outcome, done, refused}
 use Rattle.format.specs.LookUp.{Look}
 

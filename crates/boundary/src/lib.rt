@@ -2,6 +2,8 @@
 // are these words with names (include/signalfern.h), and an array that is lent is a plain pointer on every processor. The calls stand in
 // crate signalfern_c, the words of a look-up's answer in `lookup::apart`. Those of two columns are in layers.rt, of a page of ids in pages.rt,
 // of pairs in pairs.rt, of a range of values in ranges.rt, of a bare id section in sections.rt, of sets in sets.rt.
+#![tactic(auto)]
+
 ghost use Rattle.std.specs.Prelude.{◌≡◌};
 ghost use Rattle.answers.specs.Replies.{reply_of, candidate_of};
 ghost use Rattle.answers.specs.Words.{reply_words, column_words, opened_in, candidate_words};

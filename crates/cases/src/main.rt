@@ -1,5 +1,7 @@
 // The documents' cases for the writer and lists beside them, in editions 1 and 2, each written by the library and by the second writer; and
 // numbers, fetched by both.
+#![tactic(auto)]
+
 mod both;
 mod document;
 mod fetching;

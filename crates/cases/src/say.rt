@@ -1,7 +1,7 @@
 // What is written to standard output, and the count of cases and of those that came out otherwise.
 use std::num::wrapping_add_u64;
 
-#[derive(Drop)]
+#[derive(Clone, Copy)]
 pub struct Tally {
     cases: u64,
     wrong: u64,

@@ -1,6 +1,7 @@
 -- The tests of an opened column: its id section is judged with the header's numbers, then its value section is tested.
 -- Assumes nothing.
-use Rattle.format.specs.Kit.{ℕ, Bool, true, false, ◌&&◌, List, eqb}
+use Rattle.std.specs.Prelude.{◌&&◌}
+use Rattle.format.specs.Kit.{ℕ, Bool, true, false, List, eqb}
 use Rattle.format.specs.Refusals.{Outcome, done, refused}
 use Rattle.format.specs.Pairs.{Pairs}
 use Rattle.format.specs.Column.{Head}

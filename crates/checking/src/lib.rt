@@ -1,4 +1,6 @@
 // The check of a column (document 01, "Refusal numbers": 7 to 11, then 13). The judgement of a bare id section stands in section.rt.
+#![tactic(auto)]
+
 ghost use Rattle.std.specs.Prelude.{◌≡◌};
 ghost use Rattle.format.specs.Refusals.{done};
 ghost use Rattle.format.specs.Editions.{editions};

@@ -1,5 +1,6 @@
 -- The demands' terms for a page of ids with a correction on top. Lists afterwards have a '. Assumes nothing.
-use Rattle.format.specs.Kit.{◌≡◌, List, map, ℕ, ◌%◌, ◌^◌, ℤ, length}
+use Rattle.std.specs.Prelude.{◌≡◌, ◌%◌, ◌^◌}
+use Rattle.format.specs.Kit.{List, map, ℕ, ℤ, length}
 use Rattle.format.specs.Refusals.{Outcome, done}
 use Rattle.format.specs.Layered.{LayeredLook}
 use Rattle.format.specs.LayeredPage.{layered_ordinal, layered_value, layered_kind, layered_column, sum_of, layered_reply, layered_after, lists_place}

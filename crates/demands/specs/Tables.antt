@@ -1,7 +1,8 @@
 -- Document 01, "Refusal numbers", and document 02, [4], [10], [11], [14]: for each call that goes on from an opened column, asks for a
 -- range, looks into two columns or into a set, all that it can answer, a line for each case, in the order of its tests, with the number that goes
 -- with a refusal. (The other calls' tables stand beside the documents' definitions.) Assumes nothing.
-use Rattle.format.specs.Kit.{◌≡◌, true, false, List, [], ◌∷◌, Option, none, some, ℕ, ◌+◌, ◌≤◌, ◌<◌, ℤ}
+use Rattle.std.specs.Prelude.{◌≡◌, ◌∷◌, ◌+◌, ◌≤◌, ◌<◌}
+use Rattle.format.specs.Kit.{true, false, List, [], Option, none, some, ℕ, ℤ}
 use Rattle.format.specs.Limits.{max_id}
 use Rattle.format.specs.Refusals.{Outcome, done, refused, SHORT, NUMBER, EDITION, HEADER, LENGTH, DAMAGED, ID, BACK}
 use Rattle.format.specs.HeaderNumbers.{number_at, numbers_at}

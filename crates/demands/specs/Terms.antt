@@ -1,7 +1,7 @@
 -- The terms of the three demands, over the documents' definitions: a list that may be written, its bytes, the list that bytes hold, and what
 -- has to be answered of an id by that list. Assumes nothing.
-use Rattle.std.specs.Prelude.{◌↔◌}
-use Rattle.format.specs.Kit.{ℕ, suc, ◌-◌, ◌%◌, ◌^◌, min, ◌<◌, ◌≤◌, ◌≡◌, true, List, ◌++◌, map, length, drop, leb, ℤ}
+use Rattle.std.specs.Prelude.{◌↔◌, ◌-◌, ◌%◌, ◌^◌, ◌<◌, ◌≤◌, ◌≡◌, ◌++◌}
+use Rattle.format.specs.Kit.{ℕ, suc, min, true, List, map, length, drop, leb, ℤ}
 use Rattle.format.specs.Limits.{max_id, power_ok, min_power}
 use Rattle.format.specs.Refusals.{Outcome, done, refused, need, ROOM, SHORT, NUMBER, ID}
 use Rattle.format.specs.Pairs.{Pairs, Asc, Below}

@@ -7,7 +7,7 @@
 // that nothing lent is changed; `header` is document 02, [4]. A call without `refused` is lent nothing that it can change.
 //
 //   here         write, check, read, look_up          opened.rt    open, look_up_in, next_in, first_between_in, look_up_layered_in
-//   plans.rt     write_planned, plan                  asking.rt    look_up_page, next, new_cursor, first_between
+//   planning.rt     write_planned, plan                  asking.rt    look_up_page, next, new_cursor, first_between
 //   pairs.rt     read_from, pair_at, first_between_from, and those of an opened column
 //   layers.rt    look_up_layered, layered_values, layered_part
 //   layered_pages.rt  look_up_layered_page, look_up_layered_page_in
@@ -15,6 +15,8 @@
 //   sets.rt      set_write, set_check, set_find       sections.rt  judge_section
 //
 // Demands 2 and 3 are below for document 01's calls, and in those files for document 02's.
+#![tactic(auto)]
+
 ghost use Rattle.std.specs.Prelude.{◌≡◌, ◌↔◌, ◌++◌, ℕ, ◌≤◌, length, take, drop};
 ghost use Rattle.format.specs.Limits.{max_id};
 ghost use Rattle.format.specs.Refusals.{done, refused};
@@ -36,7 +38,7 @@ mod layered_pairs;
 mod layers;
 mod opened;
 mod pairs;
-mod plans;
+mod planning;
 mod sections;
 mod sets;
 
@@ -72,7 +74,7 @@ pub fn read(bytes: &[u8], ids: &mut [u32], values: &mut [i64]) -> Reply
 }
 
 // What the check and the reading answered.
-#[derive(Drop)]
+#[derive(Clone, Copy)]
 pub struct Back {
     pub checked: Reply,
     pub read: Reply,
@@ -96,7 +98,7 @@ pub fn check_then_read(bytes: &[u8], ids: &mut [u32], values: &mut [i64]) -> Bac
 }
 
 // What three calls answered; where the writer refused, that.
-#[derive(Drop)]
+#[derive(Clone, Copy)]
 pub struct Trip {
     pub wrote: Reply,
     pub checked: Reply,
@@ -188,7 +190,7 @@ pub fn look_up(bytes: &[u8], id: u32) -> Answer
 }
 
 // What the check, the look-up in the bytes and that in the opened column answered.
-#[derive(Drop)]
+#[derive(Clone, Copy)]
 pub struct Looked {
     pub checked: Reply,
     pub direct: Answer,

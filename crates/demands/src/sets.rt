@@ -42,7 +42,7 @@ pub fn set_find(bytes: &[u8], id: u32) -> Member
 }
 
 // What three calls answered; where the writer refused, that.
-#[derive(Drop)]
+#[derive(Clone, Copy)]
 pub struct SetTrip {
     pub wrote: Reply,
     pub checked: Reply,
@@ -75,7 +75,7 @@ pub fn write_then_find(ids: &[u32], out: &mut [u8], id: u32) -> SetTrip
 }
 
 // What a look-up in a column and membership in a set answered.
-#[derive(Drop)]
+#[derive(Clone, Copy)]
 pub struct Both {
     pub answer: Answer,
     pub member: Member,

@@ -1,6 +1,7 @@
 -- The question of document 02, [11], asked again above an answer: the first ordinal from o on with a value from a to b, in a column of edition 3.
 -- Document 02's question is the one from 0 on. (Not in document 02: docs/DECISIONS.md.) Assumes nothing.
-use Rattle.format.specs.Kit.{ℕ, suc, ◌+◌, ◌-◌, ◌*◌, ◌/◌, ◌%◌, min, cond, ◌&&◌, List, [], ◌∷◌, Option, none, eqb, ltb, ℤ, le_z}
+use Rattle.std.specs.Prelude.{◌+◌, ◌-◌, ◌*◌, ◌/◌, ◌%◌, ◌&&◌, ◌∷◌}
+use Rattle.format.specs.Kit.{ℕ, suc, min, cond, List, [], Option, none, eqb, ltb, ℤ, le_z}
 use Rattle.format.specs.Refusals.{Outcome, done, and_then, need, EDITION, HEADER, LENGTH}
 use Rattle.format.specs.ValueRuns.{run_length, run_count, Summary, summary_at}
 use Rattle.format.specs.Editions.{runs, number_of}

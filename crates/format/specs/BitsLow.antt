@@ -1,6 +1,7 @@
 -- Document 02, [6] (Lucene 9): numbers of w bits each, packed into bytes low bit first. Value i starts at bit iw, its lowest bit first,
 -- and bit j has weight 2 ^ (j mod 8) in byte j div 8. Assumes nothing.
-use Rattle.format.specs.Kit.{ℕ, zero, suc, ◌+◌, ◌*◌, ◌/◌, ◌%◌, ◌^◌, List, length, get_or}
+use Rattle.std.specs.Prelude.{◌+◌, ◌*◌, ◌/◌, ◌%◌, ◌^◌}
+use Rattle.format.specs.Kit.{ℕ, zero, suc, List, length, get_or}
 use Rattle.format.specs.Bits.{tabulate, packed_bytes}
 
 -- bit j of the numbers xs of w bits each, written one after the other, low bit first; 0 past the end

@@ -1,6 +1,7 @@
 -- The check (7 to 11, then 13) and the full reading (7 to 11, 12, 13): decode the pair list, ask the writer's definition, compare
 -- the bytes. Document 01, "Refusal numbers": DAMAGED exactly when the bytes are no column of any pair list. Assumes nothing.
-use Rattle.format.specs.Kit.{ℕ, zero, suc, Bool, false, ◌&&◌, List, [], ◌∷◌, ◌++◌, Option, some, bind, Option·map, length, drop, leb, ℤ}
+use Rattle.std.specs.Prelude.{◌&&◌, ◌∷◌, ◌++◌}
+use Rattle.format.specs.Kit.{ℕ, zero, suc, Bool, false, List, [], Option, some, bind, Option·map, length, drop, leb, ℤ}
 use Rattle.format.specs.Refusals.{Outcome, done, refused, and_then, need, given, BUFFER, DAMAGED}
 use Rattle.format.specs.Bytes.{same}
 use Rattle.format.specs.IdsRead.{read_runs, ids_of}

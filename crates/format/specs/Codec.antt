@@ -1,6 +1,7 @@
 -- What an edition says of values, and all that it says: the header's w, smallest value and g, the value section, the header rules on
 -- them, and step 7's value. Everything else of a column is the same in each edition. Assumes nothing.
-use Rattle.format.specs.Kit.{ℕ, ◌/◌, Bool, true, cond, ◌&&◌, List, Option, none, some, leb, eqb, ℤ}
+use Rattle.std.specs.Prelude.{◌/◌, ◌&&◌}
+use Rattle.format.specs.Kit.{ℕ, Bool, true, cond, List, Option, none, some, leb, eqb, ℤ}
 use Rattle.format.specs.HeaderNumbers.{zigzag, unzigzag}
 use Rattle.format.specs.Bits.{packed_bytes}
 use Rattle.format.specs.Values.{fits64, smallest, spread, divisor, stored, value_at}

@@ -1,5 +1,6 @@
 -- Document 01, "What a column is" and "Header": the header's numbers and the whole column, of any edition. Assumes nothing.
-use Rattle.format.specs.Kit.{ℕ, List, [], ◌∷◌, ◌++◌, length, ℤ}
+use Rattle.std.specs.Prelude.{◌∷◌, ◌++◌}
+use Rattle.format.specs.Kit.{ℕ, List, [], length, ℤ}
 use Rattle.format.specs.Bytes.{bytes_of}
 use Rattle.format.specs.HeaderNumbers.{number}
 use Rattle.format.specs.Ids.{id_section, jumps}

@@ -1,5 +1,6 @@
 -- The values of ordinals that follow each other, up to the first that has none. Assumes nothing.
-use Rattle.format.specs.Kit.{ℕ, zero, suc, List, [], ◌∷◌, Option, none, some, ℤ}
+use Rattle.std.specs.Prelude.{◌∷◌}
+use Rattle.format.specs.Kit.{ℕ, zero, suc, List, [], Option, none, some, ℤ}
 
 -- a value in front; none stops the row
 unfoldable pub drawn_by : Option ℤ → List ℤ → List ℤ

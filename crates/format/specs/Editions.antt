@@ -1,5 +1,6 @@
 -- The editions: the number of each, which is the first header number, and its codec. Assumes nothing.
-use Rattle.format.specs.Kit.{ℕ, ◌≡◌, ◌^◌, Bool, false, cond, ◌||◌, List, [], ◌∷◌, Option, none, some, leb, ltb, eqb}
+use Rattle.std.specs.Prelude.{◌≡◌, ◌^◌, ◌||◌, ◌∷◌}
+use Rattle.format.specs.Kit.{ℕ, Bool, false, cond, List, [], Option, none, some, leb, ltb, eqb}
 use Rattle.format.specs.Limits.{max_width}
 use Rattle.format.specs.Bits.{packed, fetched}
 use Rattle.format.specs.BitsLow.{packed_low, fetched_low}

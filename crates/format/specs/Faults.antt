@@ -1,6 +1,7 @@
 -- Document 02, [4], "Say where the header broke": what SHORT and NUMBER say of the bytes. "The number with 7 shall be the byte count, with 8 the place (from 0)
 -- of the byte that decided it." Assumes nothing.
-use Rattle.format.specs.Kit.{ℕ, ◌+◌, ◌^◌, ◌≤◌, ◌<◌, ◌≡◌, ◌⊎◌, List, [], ◌∷◌, ◌++◌, some, length}
+use Rattle.std.specs.Prelude.{◌+◌, ◌^◌, ◌≤◌, ◌<◌, ◌≡◌, ◌⊎◌, ◌∷◌, ◌++◌}
+use Rattle.format.specs.Kit.{ℕ, List, [], some, length}
 use Rattle.format.specs.Bytes.{bytes_of}
 use Rattle.format.specs.HeaderNumbers.{number}
 use Rattle.format.specs.Pairs.{Below}

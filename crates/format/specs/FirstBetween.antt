@@ -1,5 +1,6 @@
 -- Document 02, [11], the question: the first ordinal with a value from a to b, in a column of edition 3. Assumes nothing.
-use Rattle.format.specs.Kit.{ℕ, zero, suc, ◌-◌, ◌*◌, min, Bool, cond, ◌&&◌, ◌||◌, List, [], ◌∷◌, Option, none, some, eqb, ℤ, le_z, lt_z}
+use Rattle.std.specs.Prelude.{◌-◌, ◌*◌, ◌&&◌, ◌||◌, ◌∷◌}
+use Rattle.format.specs.Kit.{ℕ, zero, suc, min, Bool, cond, List, [], Option, none, some, eqb, ℤ, le_z, lt_z}
 use Rattle.format.specs.Refusals.{Outcome, done, and_then, need, given, EDITION, HEADER, LENGTH, BROKEN}
 use Rattle.format.specs.ValueRuns.{run_length, run_count, Summary, summary_at}
 use Rattle.format.specs.Editions.{runs, number_of}

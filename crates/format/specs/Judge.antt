@@ -1,6 +1,7 @@
 -- Document 02, [9]: the judge of a bare id section. The tests stand in the paper's order, block by block; a fault has a reason and a place.
 -- Assumes nothing.
-use Rattle.format.specs.Kit.{ℕ, zero, suc, ◌+◌, ◌-◌, ◌*◌, ◌/◌, ◌^◌, Bool, true, cond, not, ◌&&◌, ◌||◌, List, [], ◌∷◌, ◌++◌, Option, none, some}
+use Rattle.std.specs.Prelude.{◌+◌, ◌-◌, ◌*◌, ◌/◌, ◌^◌, ◌&&◌, ◌||◌, ◌∷◌, ◌++◌}
+use Rattle.format.specs.Kit.{ℕ, zero, suc, Bool, true, cond, not, List, [], Option, none, some}
 use Rattle.format.specs.Kit.{length, take, drop, replicate, leb, eqb}
 use Rattle.format.specs.Limits.{max_block, bitmap_longs, end_number, power_ok, max_jumps}
 use Rattle.format.specs.Refusals.{Outcome, done, refused, and_then, need, HEADER}

@@ -1,6 +1,7 @@
 -- Document 02, [9]: when a reason and a place are right, "the first faulty block's start and one reason"; "For jump entries the place is the first wrong or cut
 -- one, or their beginning if the count is wrong; for left-overs the first such byte." Assumes nothing.
-use Rattle.format.specs.Kit.{ℕ, suc, ◌+◌, ◌*◌, ◌<◌, ◌≡◌, List, ◌∷◌, ◌++◌, some, length, take, drop}
+use Rattle.std.specs.Prelude.{◌+◌, ◌*◌, ◌<◌, ◌≡◌, ◌∷◌, ◌++◌}
+use Rattle.format.specs.Kit.{ℕ, suc, List, some, length, take, drop}
 use Rattle.format.specs.Limits.{max_id}
 use Rattle.format.specs.Bytes.{bytes_of}
 use Rattle.format.specs.Ids.{Entry, runs, jumps}

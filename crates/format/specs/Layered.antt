@@ -1,7 +1,8 @@
 -- Document 02, [10], "The stenographer's correction lies on top": the look-up in a machine column m with a correction column c on top of
 -- it, the part of a lent column that the second call hands back, and what demand 3 holds both against. Assumes nothing.
+use Rattle.std.specs.Prelude.{◌+◌, ◌≡◌}
 use Rattle.std.specs.Borrow.{Bor}
-use Rattle.format.specs.Kit.{ℕ, ◌+◌, ◌≡◌, cond, List, Option, some, get_or, take, drop, ℤ, pos, RefT}
+use Rattle.format.specs.Kit.{ℕ, cond, List, Option, some, get_or, take, drop, ℤ, pos}
 use Rattle.format.specs.Refusals.{Outcome, done, refused}
 use Rattle.format.specs.Ids.{count_below}
 use Rattle.format.specs.Editions.{Edition}

@@ -1,6 +1,7 @@
 -- A page of ids looked up in one call in a machine column with a correction on top, into lent lists of ordinals, values, kinds of answer and
 -- columns. Each place is what the single layered look-up gives. (Not in document 02: docs/DECISIONS.md.) Assumes nothing.
-use Rattle.format.specs.Kit.{ℕ, ◌+◌, ◌%◌, ◌^◌, ◌&&◌, cond, List, [], ◌∷◌, ◌++◌, map, length, drop, leb, ℤ, pos}
+use Rattle.std.specs.Prelude.{◌+◌, ◌%◌, ◌^◌, ◌&&◌, ◌∷◌, ◌++◌}
+use Rattle.format.specs.Kit.{ℕ, cond, List, [], map, length, drop, leb, ℤ, pos}
 use Rattle.format.specs.Limits.{max_id}
 use Rattle.format.specs.Refusals.{Outcome, done, refused, need, BUFFER, ID}
 use Rattle.format.specs.Editions.{Edition}

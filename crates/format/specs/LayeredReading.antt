@@ -1,6 +1,7 @@
 -- A reading from an id on in a machine column with a correction on top: the pairs of both columns in the order of ids, with the column of each.
 -- (Not in document 02: docs/DECISIONS.md.) Assumes nothing.
-use Rattle.format.specs.Kit.{ℕ, zero, suc, Bool, true, false, cond, List, [], ◌∷◌, ◌++◌, map, length, take, drop, Option, none, some, leb, ltb, eqb, ℤ}
+use Rattle.std.specs.Prelude.{◌∷◌, ◌++◌}
+use Rattle.format.specs.Kit.{ℕ, zero, suc, Bool, true, false, cond, List, [], map, length, take, drop, Option, none, some, leb, ltb, eqb, ℤ}
 use Rattle.format.specs.Limits.{max_id}
 use Rattle.format.specs.Refusals.{Outcome, done, refused, and_then, need, HEADER, LENGTH, ID}
 use Rattle.format.specs.Editions.{Edition}

@@ -1,6 +1,7 @@
 -- The list that bytes hold: of a column (document 01: "The list of accepted bytes is the pair list whose column they are"), of a bare id section
 -- (document 02, [9]) and of a set on disk ([14]). Assumes nothing.
-use Rattle.format.specs.Kit.{ℕ, suc, ◌≡◌, List, length, ℤ}
+use Rattle.std.specs.Prelude.{◌≡◌}
+use Rattle.format.specs.Kit.{ℕ, suc, List, length, ℤ}
 use Rattle.format.specs.Limits.{max_id}
 use Rattle.format.specs.Pairs.{Asc, Below, ValidIds}
 use Rattle.format.specs.Editions.{Edition, Knows}

@@ -1,6 +1,7 @@
 -- Document 01, "The look-up, step by step": the steps fix the answer for any bytes, and the first step that fails decides it. Step 5 is
 -- that of document 02, [8]. Assumes nothing.
-use Rattle.format.specs.Kit.{ℕ, zero, suc, ◌+◌, ◌-◌, ◌*◌, ◌/◌, ◌%◌, ◌^◌, min, Bool, cond, not, ◌&&◌, ◌||◌, List, [], ◌∷◌, Option, none, some}
+use Rattle.std.specs.Prelude.{◌+◌, ◌-◌, ◌*◌, ◌/◌, ◌%◌, ◌^◌, ◌&&◌, ◌||◌, ◌∷◌}
+use Rattle.format.specs.Kit.{ℕ, zero, suc, min, Bool, cond, not, List, [], Option, none, some}
 use Rattle.format.specs.Kit.{length, get_or, drop, leb, ltb, eqb, ones_in, ℤ}
 use Rattle.format.specs.Limits.{max_id, block_places}
 use Rattle.format.specs.Refusals.{Outcome, done, refused, and_then, need, given, HEADER, LENGTH, ID, BROKEN}

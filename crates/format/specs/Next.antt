@@ -1,6 +1,7 @@
 -- Document 02, [1], "The next scored candidate": from a cursor, the first listed id at or above a target, with ordinal and value, or that there
 -- is none. A cursor is the last target answered. Assumes nothing.
-use Rattle.format.specs.Kit.{ℕ, zero, suc, ◌-◌, cond, List, [], ◌∷◌, get_or, leb, ltb, ℤ, pos}
+use Rattle.std.specs.Prelude.{◌-◌, ◌∷◌}
+use Rattle.format.specs.Kit.{ℕ, zero, suc, cond, List, [], get_or, leb, ltb, ℤ, pos}
 use Rattle.format.specs.Limits.{max_id}
 use Rattle.format.specs.Refusals.{Outcome, done, refused, and_then, need, HEADER, LENGTH, ID, BACK}
 use Rattle.format.specs.Editions.{Edition}

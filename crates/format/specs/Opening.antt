@@ -1,6 +1,7 @@
 -- Opening a column: refusals 7 to 11 in order (document 01, "Header", "Refusal numbers"), and where its parts stand.
 -- Assumes nothing.
-use Rattle.format.specs.Kit.{ℕ, ◌+◌, ◌*◌, Bool, ◌&&◌, List, Option, length, get_or, take, drop, leb, eqb, ℤ}
+use Rattle.std.specs.Prelude.{◌+◌, ◌*◌, ◌&&◌}
+use Rattle.format.specs.Kit.{ℕ, Bool, List, Option, length, get_or, take, drop, leb, eqb, ℤ}
 use Rattle.format.specs.Limits.{power_ok, max_count, max_jumps}
 use Rattle.format.specs.Refusals.{Outcome, done, and_then, need, given, EDITION, HEADER, LENGTH}
 use Rattle.format.specs.HeaderNumbers.{number_at, numbers_at}

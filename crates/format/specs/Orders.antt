@@ -1,6 +1,7 @@
 -- Document 02, [9]: an id section in either byte order. It is that of document 01 with shorts, ints and longs low byte first, as Lucene 9
 -- writes them, or high byte first, as Lucene 8 does. Rank entries are high byte first in both. Assumes nothing.
-use Rattle.format.specs.Kit.{ℕ, zero, suc, ◌-◌, ◌^◌, List, [], ◌∷◌, ◌++◌, length, take, drop}
+use Rattle.std.specs.Prelude.{◌-◌, ◌^◌, ◌∷◌, ◌++◌}
+use Rattle.format.specs.Kit.{ℕ, zero, suc, List, [], length, take, drop}
 use Rattle.format.specs.Limits.{bitmap_longs, end_number}
 use Rattle.format.specs.Bytes.{digits, low, from_low, high, from_high, bytes_of}
 use Rattle.format.specs.Ids.{Run, Entry, runs, kind_of, by_kind, rank_table, bitmap, jumps}

@@ -1,6 +1,7 @@
 -- Document 02, [3]: a page of ids looked up in one call, into lent lists of ordinals, values and kinds of answer. Each place is what the
 -- single look-up gives. Assumes nothing.
-use Rattle.format.specs.Kit.{ℕ, ◌+◌, ◌%◌, ◌^◌, ◌&&◌, List, [], ◌∷◌, ◌++◌, map, length, drop, leb, ℤ, pos}
+use Rattle.std.specs.Prelude.{◌+◌, ◌%◌, ◌^◌, ◌&&◌, ◌∷◌, ◌++◌}
+use Rattle.format.specs.Kit.{ℕ, List, [], map, length, drop, leb, ℤ, pos}
 use Rattle.format.specs.Refusals.{Outcome, done, refused, need, BUFFER}
 use Rattle.format.specs.Editions.{Edition}
 use Rattle.format.specs.LookUp.{Look, found, absent, look_up}

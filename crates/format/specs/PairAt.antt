@@ -1,6 +1,7 @@
 -- The pair with an ordinal: the look-up's steps the other way round. They fix the answer for any bytes, and the first step that fails decides
 -- it. (Not in document 02: docs/DECISIONS.md.) Assumes nothing.
-use Rattle.format.specs.Kit.{ℕ, zero, suc, ◌+◌, ◌-◌, ◌*◌, ◌/◌, ◌%◌, ◌^◌, cond, not, ◌&&◌, ◌||◌, List, Option, none, some, length, get_or, leb, ltb, eqb}
+use Rattle.std.specs.Prelude.{◌+◌, ◌-◌, ◌*◌, ◌/◌, ◌%◌, ◌^◌, ◌&&◌, ◌||◌}
+use Rattle.format.specs.Kit.{ℕ, zero, suc, cond, not, List, Option, none, some, length, get_or, leb, ltb, eqb}
 use Rattle.format.specs.Kit.{ℤ, pos}
 use Rattle.format.specs.Limits.{max_block, block_places}
 use Rattle.format.specs.Refusals.{Outcome, done, and_then, need, given, HEADER, LENGTH, BROKEN}

@@ -1,6 +1,7 @@
 -- Document 02, [12]: plans. A plan is a table, or none at all (an empty list), which is plain edition 1. The small check of a plan, and what the
 -- planner proposes. Assumes nothing.
-use Rattle.format.specs.Kit.{ℕ, Bool, true, cond, List, [], ◌∷◌, length, leb, ℤ}
+use Rattle.std.specs.Prelude.{◌∷◌}
+use Rattle.format.specs.Kit.{ℕ, Bool, true, cond, List, [], length, leb, ℤ}
 use Rattle.format.specs.Limits.{max_count}
 use Rattle.format.specs.Refusals.{Outcome, done, need, BUFFER}
 use Rattle.format.specs.Table.{max_entries, table_of, table_ok}

@@ -1,7 +1,8 @@
 -- Pairs from an id on, into lent lists of ids and values: place 0 is what `next` answers for that id, place 1 what it answers for the id after
 -- that one, and so on, until there is none, a list is full, or the next one would be refused. (Not in document 02: docs/DECISIONS.md.)
 -- Assumes nothing.
-use Rattle.format.specs.Kit.{ℕ, zero, suc, ◌+◌, ◌-◌, Bool, true, false, cond, List, [], ◌∷◌, ◌++◌, length, get_or, take, drop, leb, ℤ}
+use Rattle.std.specs.Prelude.{◌+◌, ◌-◌, ◌∷◌, ◌++◌}
+use Rattle.format.specs.Kit.{ℕ, zero, suc, Bool, true, false, cond, List, [], length, get_or, take, drop, leb, ℤ}
 use Rattle.format.specs.Limits.{max_id}
 use Rattle.format.specs.Refusals.{Outcome, done, refused, and_then, need, HEADER, LENGTH, ID}
 use Rattle.format.specs.Ids.{count_below}

@@ -1,5 +1,6 @@
 -- The header rules as plain facts, and what an opened column keeps: for the contracts of what works on one. Assumes nothing.
-use Rattle.format.specs.Kit.{◌≡◌, true, List, ℕ, ◌+◌, ◌*◌, ◌≤◌, length}
+use Rattle.std.specs.Prelude.{◌≡◌, ◌+◌, ◌*◌, ◌≤◌}
+use Rattle.format.specs.Kit.{true, List, ℕ, length}
 use Rattle.format.specs.Limits.{max_count, max_jumps, Power}
 use Rattle.format.specs.Editions.{codec}
 use Rattle.format.specs.Column.{Head}

@@ -1,5 +1,6 @@
 -- Blocks that the section can hold, and what they add up to. Assumes nothing.
-use Rattle.format.specs.Kit.{ℕ, zero, suc, ◌+◌, ◌-◌, ◌^◌, ◌≤◌, ◌<◌, List, [], ◌∷◌, length}
+use Rattle.std.specs.Prelude.{◌+◌, ◌-◌, ◌^◌, ◌≤◌, ◌<◌, ◌∷◌}
+use Rattle.format.specs.Kit.{ℕ, zero, suc, List, [], length}
 use Rattle.format.specs.Limits.{block_places, max_block}
 use Rattle.format.specs.Ids.{Run, block_bytes}
 use Rattle.format.specs.Pairs.{Asc, Below}

@@ -1,7 +1,8 @@
 -- Document 01, "Refusal numbers", and document 02, [1], [3], [12], [14]: for each call all that it can answer, a line for each case, in the order of its tests,
 -- with the number that goes with a refusal. That each answer is given exactly in its own case is proved in crate laws (WritersSay, OpeningSays, ReadersSay).
 -- Assumes nothing.
-use Rattle.format.specs.Kit.{◌≡◌, Bool, true, false, ◌⊎◌, List, ◌++◌, map, none, ℕ, suc, ◌+◌, ◌^◌, ◌≤◌, ◌<◌, ℤ, length, get_or}
+use Rattle.std.specs.Prelude.{◌≡◌, ◌⊎◌, ◌++◌, ◌+◌, ◌^◌, ◌≤◌, ◌<◌}
+use Rattle.format.specs.Kit.{Bool, true, false, List, map, none, ℕ, suc, ℤ, length, get_or}
 use Rattle.format.specs.Limits.{max_id, power_ok}
 use Rattle.format.specs.Refusals.{Outcome, done, refused, LENGTHS, POWER, ORDER, RANGE, ROOM, SHORT, NUMBER, EDITION, HEADER, LENGTH, BUFFER, DAMAGED}
 use Rattle.format.specs.Refusals.{ID, BACK, PLAN}

@@ -1,6 +1,7 @@
 -- Document 02, [14], "The in-memory set's sibling on disk" (source 003): the bytes of an id list, and the writer. Block numbers, places
 -- and the bits of a bitmap are those of document 01. Assumes nothing.
-use Rattle.format.specs.Kit.{ℕ, zero, suc, ◌-◌, Bool, false, cond, List, [], ◌∷◌, ◌++◌, length, leb, ltb, eqb}
+use Rattle.std.specs.Prelude.{◌-◌, ◌∷◌, ◌++◌}
+use Rattle.format.specs.Kit.{ℕ, zero, suc, Bool, false, cond, List, [], length, leb, ltb, eqb}
 use Rattle.format.specs.Limits.{block_places, bitmap_bytes, max_listed}
 use Rattle.format.specs.Refusals.{Outcome, done, need, need_none, ORDER, RANGE, ROOM}
 use Rattle.format.specs.Bytes.{low, bytes_of}

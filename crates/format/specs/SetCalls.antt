@@ -1,6 +1,7 @@
 -- Document 02, [14], the check and membership: the first fault in byte order decides. Each number is read, then at once held to its
 -- limits; a list's or a bitmap's own fault comes before the next block's number. Assumes nothing.
-use Rattle.format.specs.Kit.{ℕ, zero, suc, ◌+◌, ◌*◌, Bool, cond, ◌&&◌, List, [], ◌∷◌, length, take, drop, leb, ltb, eqb}
+use Rattle.std.specs.Prelude.{◌+◌, ◌*◌, ◌&&◌, ◌∷◌}
+use Rattle.format.specs.Kit.{ℕ, zero, suc, Bool, cond, List, [], length, take, drop, leb, ltb, eqb}
 use Rattle.format.specs.Limits.{max_id, block_places, max_block, max_blocks, max_listed, max_kind, bitmap_longs, bitmap_bytes}
 use Rattle.format.specs.Refusals.{Outcome, done, and_then, need, DAMAGED, ID}
 use Rattle.format.specs.Bytes.{from_low}

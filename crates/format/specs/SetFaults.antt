@@ -1,6 +1,7 @@
 -- Document 02, [14]: what the refusals of a set's bytes say of them. "The first fault in byte order decides; each number is read, then at once held to its
 -- limits", "7 and 8 with [4]'s numbers", "Other faults and left-over bytes are 13." Assumes nothing.
-use Rattle.format.specs.Kit.{ℕ, ◌+◌, ◌≤◌, ◌<◌, ◌≡◌, List, ◌++◌, length, drop}
+use Rattle.std.specs.Prelude.{◌+◌, ◌≤◌, ◌<◌, ◌≡◌, ◌++◌}
+use Rattle.format.specs.Kit.{ℕ, List, length, drop}
 use Rattle.format.specs.Limits.{max_block, max_blocks, max_kind}
 use Rattle.format.specs.Bytes.{bytes_of}
 use Rattle.format.specs.HeaderNumbers.{number}

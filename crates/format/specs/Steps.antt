@@ -1,5 +1,6 @@
 -- Document 02, [13]: values as steps from a start, whatever start and step somebody chose. Assumes nothing.
-use Rattle.format.specs.Kit.{ℕ, ◌^◌, ◌<◌, ◌≡◌, List, ℤ}
+use Rattle.std.specs.Prelude.{◌^◌, ◌<◌, ◌≡◌}
+use Rattle.format.specs.Kit.{ℕ, List, ℤ}
 use Rattle.format.specs.Values.{value_at}
 use Rattle.format.specs.Pairs.{Each}
 

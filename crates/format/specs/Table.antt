@@ -1,6 +1,7 @@
 -- Document 02, [12], the values of edition 4: a table of the distinct values, ascending, 8 bytes each, low first, two's complement, then a code
 -- for each value, its place in the table, high bit first, at the least width for the last code. Assumes nothing.
-use Rattle.format.specs.Kit.{ℕ, suc, ◌+◌, ◌-◌, ◌*◌, Bool, true, false, cond, ◌&&◌, ◌||◌, List, [], ◌∷◌, ◌++◌, map, Option, none, length, drop}
+use Rattle.std.specs.Prelude.{◌+◌, ◌-◌, ◌*◌, ◌&&◌, ◌||◌, ◌∷◌, ◌++◌}
+use Rattle.format.specs.Kit.{ℕ, suc, Bool, true, false, cond, List, [], map, Option, none, length, drop}
 use Rattle.format.specs.Kit.{leb, ltb, eqb, ℤ, le_z, lt_z}
 use Rattle.format.specs.Bytes.{bytes_of, low, low_at, twos, untwos}
 use Rattle.format.specs.HeaderNumbers.{number}

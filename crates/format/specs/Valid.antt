@@ -1,6 +1,7 @@
 -- The pair lists that a column of an edition can hold: an id for each value, ids strictly ascending, each within document 01's limits, and
 -- values that the edition takes. Assumes nothing.
-use Rattle.format.specs.Kit.{ℕ, suc, ◌≡◌, true, List, length, ℤ}
+use Rattle.std.specs.Prelude.{◌≡◌}
+use Rattle.format.specs.Kit.{ℕ, suc, true, List, length, ℤ}
 use Rattle.format.specs.Limits.{max_id, power_ok}
 use Rattle.format.specs.Pairs.{Asc, Below, Each, Fits}
 use Rattle.format.specs.Editions.{Edition, codec}

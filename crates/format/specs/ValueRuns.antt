@@ -1,6 +1,7 @@
 -- Document 02, [11], the values of edition 3: in runs of 16384, the last one maybe shorter, one g for the whole column, own smallest value and
 -- least width per run, bits high first. The value section opens with a directory of 25 bytes a run. Assumes nothing.
-use Rattle.format.specs.Kit.{ℕ, zero, suc, ◌+◌, ◌*◌, ◌/◌, ◌%◌, true, cond, ◌&&◌, ◌||◌, List, [], ◌∷◌, ◌++◌, Option, none, length, get_or, take, drop}
+use Rattle.std.specs.Prelude.{◌+◌, ◌*◌, ◌/◌, ◌%◌, ◌&&◌, ◌||◌, ◌∷◌, ◌++◌}
+use Rattle.format.specs.Kit.{ℕ, zero, suc, true, cond, List, [], Option, none, length, get_or, take, drop}
 use Rattle.format.specs.Kit.{leb, eqb, ℤ}
 use Rattle.format.specs.Limits.{max_width}
 use Rattle.format.specs.Bytes.{bytes_of, low, low_at, twos, untwos}

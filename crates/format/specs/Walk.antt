@@ -1,5 +1,6 @@
 -- Document 01, "The walk over all blocks, and the words": what demand 3 holds the look-up against. Assumes nothing.
-use Rattle.format.specs.Kit.{ℕ, zero, suc, ◌+◌, ◌-◌, ◌/◌, ◌%◌, ◌^◌, ◌≤◌, Bool, false, cond, ◌||◌, List, [], ◌∷◌, Option, none, some, length}
+use Rattle.std.specs.Prelude.{◌+◌, ◌-◌, ◌/◌, ◌%◌, ◌^◌, ◌≤◌, ◌||◌, ◌∷◌}
+use Rattle.format.specs.Kit.{ℕ, zero, suc, Bool, false, cond, List, [], Option, none, some, length}
 use Rattle.format.specs.Kit.{get_or, drop, eqb, ℤ, pos}
 use Rattle.format.specs.Limits.{block_places, bitmap_longs, end_number}
 use Rattle.format.specs.Refusals.{Outcome, done, refused}

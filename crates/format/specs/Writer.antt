@@ -1,6 +1,7 @@
 -- The writer: refusals 1, 9, 2 to 4, 17 and 6 in order, each over the whole input before the next (document 01, "Refusal numbers"; document 02,
 -- [6], put 9 in, [7] took 5 out, and [12] put 17 in, for a writer that is handed a plan). Assumes nothing.
-use Rattle.format.specs.Kit.{ℕ, suc, Bool, cond, List, [], ◌∷◌, ◌++◌, Option, none, some, length, drop, leb, ltb, eqb, ℤ}
+use Rattle.std.specs.Prelude.{◌∷◌, ◌++◌}
+use Rattle.format.specs.Kit.{ℕ, suc, Bool, cond, List, [], Option, none, some, length, drop, leb, ltb, eqb, ℤ}
 use Rattle.format.specs.Limits.{max_id, power_ok}
 use Rattle.format.specs.Refusals.{Outcome, done, refused, and_then, need, given, need_none, LENGTHS, POWER, ORDER, RANGE, ROOM, EDITION, PLAN}
 use Rattle.format.specs.Editions.{Edition, editions, edition_in, codec}

@@ -1,5 +1,6 @@
 -- A header number read at once. Assumes nothing.
-use Rattle.format.specs.Kit.{◌≡◌, List, ℕ, ◌+◌, ◌≤◌, drop}
+use Rattle.std.specs.Prelude.{◌≡◌, ◌+◌, ◌≤◌}
+use Rattle.format.specs.Kit.{List, ℕ, drop}
 use Rattle.format.specs.HeaderNumbers.{read_number}
 use Rattle.header_numbers.specs.Read.{number_of}
 use Rattle.header_numbers.specs.declared.Number.TheVariants.{Is}

@@ -1,5 +1,6 @@
 -- What reading a header number at a place finds, with places counted from the bytes' front. Assumes nothing.
-use Rattle.format.specs.Kit.{ℕ, ◌+◌, ◌*◌, Bool, cond, not, eqb}
+use Rattle.std.specs.Prelude.{◌+◌, ◌*◌}
+use Rattle.format.specs.Kit.{ℕ, Bool, cond, not, eqb}
 use Rattle.format.specs.HeaderNumbers.{Got, got, short, bad}
 use Rattle.header_numbers.specs.declared.Number.{Number}
 use Rattle.header_numbers.specs.declared.Number.TheVariants.{Is, Short, Bad}

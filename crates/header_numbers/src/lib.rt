@@ -1,4 +1,6 @@
 // Header numbers, in groups of seven bits (document 01, "Header"): their length, writing and reading.
+#![tactic(auto)]
+
 ghost use Rattle.std.specs.Prelude.{◌≡◌, ◌+◌, ◌≤◌, ◌<◌, length, drop};
 ghost use Rattle.std.proofs.lemmas.List.Edits.{sets};
 ghost use Rattle.format.specs.HeaderNumbers.{number, read_number, read_groups};
@@ -6,7 +8,7 @@ ghost use Rattle.header_numbers.specs.Read.{number_of, number_on, decides_at};
 ghost use Rattle.header_numbers.specs.Quick.{Quick};
 
 // What reading a header number finds.
-#[derive(Drop)]
+#[derive(Clone, Copy)]
 pub enum Number {
     // The number, and the place after its last byte.
     Is { value: u64, next: usize },
@@ -110,7 +112,7 @@ pub fn read_number(s: &[u8], at: usize) -> Number
 
 // A number of at most five bytes, and how many they are: 0 for all else. The length is told by the jumps alone and not by a sum with the
 // value, so that the place of what follows is guessed with them and waits for no byte (docs/DECISIONS.md, "Speed").
-#[derive(Drop)]
+#[derive(Clone, Copy)]
 pub struct Brief {
     pub value: u64,
     pub len: usize,

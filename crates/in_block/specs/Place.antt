@@ -1,5 +1,6 @@
 -- What the code's answers on a place of a block stand for, and what a caller may count on. Assumes nothing.
-use Rattle.format.specs.Kit.{◌≡◌, Option, none, some, ℕ, ◌+◌, ◌*◌, ◌<◌}
+use Rattle.std.specs.Prelude.{◌≡◌, ◌+◌, ◌*◌, ◌<◌}
+use Rattle.format.specs.Kit.{Option, none, some, ℕ}
 use Rattle.format.specs.Limits.{block_places}
 use Rattle.format.specs.LookUp.{Place, inside, nowhere, broken, Sought, in_sparse}
 use Rattle.in_block.specs.declared.Inner as In

@@ -1,4 +1,6 @@
 // Where a place stands in its block: steps 5 and 6 of document 01, "The look-up, step by step".
+#![tactic(auto)]
+
 ghost use Rattle.std.specs.Prelude.{◌≡◌, ℕ, ◌+◌, ◌-◌, ◌*◌, ◌/◌, ◌%◌, ◌^◌, ◌≤◌, ◌<◌, cond, ltb, length, drop};
 ghost use Rattle.std.specs.Int.Count.{ones_in};
 ghost use Rattle.format.specs.Limits.{Power, block_places, dense_count, bitmap_bytes};
@@ -16,7 +18,7 @@ pub use by_count::index_in;
 
 // A place's index in its block, the words counted and the entries probed; not there, with both; or a failed step. (32 bits for the
 // index: both cases then have words and probes in the same place, and nothing goes through memory.)
-#[derive(Drop)]
+#[derive(Clone, Copy)]
 pub enum Inner {
     At { inner: u32, words: u64, probes: u64 },
     Absent { words: u64, probes: u64 },

@@ -12,7 +12,7 @@ use Rattle.laws.proofs.Cases.{equal_or, true_or}
 ids_push : (b r : ℕ) (gs : List Run) → ids_of (push b r gs) ≡ (b * 65536 + r) ∷ ids_of gs
 unfolding push ids_of
 ids_push b r [] = refl
-ids_push b r (g ∷ gs) = equal_or b g.block (λ e. rw (eq-eqb b g.block e, e)) (λ e. rw (ne_eqb b g.block e))
+ids_push b r (g ∷ gs) = equal_or b g.block (λ e. rw (eq-eqb b g.block e) (ap {B = List ℕ} (λ (x : ℕ). (b * 65536 + r) ∷ (map (λ q. x * 65536 + q) g.places ++ ids_of gs)) e)) (λ e. rw (ne_eqb b g.block e))
 
 pub ids_runs : (ids : List ℕ) → ids_of (runs ids) ≡ ids
 unfolding runs ids_of

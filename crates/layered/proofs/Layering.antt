@@ -1,7 +1,5 @@
 -- The layered answer by the correction's, and the part by that answer. Assumes nothing.
 use Rattle.format.specs.Kit.{◌≡◌, refl, sym, ap, ◌∙◌, subst, List, [], ◌∷◌, inl, inr, ℕ, ◌+◌, ◌≤◌, max, arith, length, ℤ}
-use types.Run.{OneOf}
-use denote.Enum.Declared.{tag_of}
 use Rattle.format.specs.Refusals.{Outcome}
 use Rattle.format.specs.Editions.{editions}
 use Rattle.format.specs.Opening.{open_column}
@@ -13,7 +11,6 @@ use Rattle.layered.specs.declared.Layer as La
 use Rattle.layered.specs.declared.Layered as Ly
 use Rattle.layered.specs.declared.Part.{Part}
 use Rattle.layered.specs.declared.Top as To
-use Rattle.layered.specs.contracts.Layered as Layered
 
 -- ---- by the correction's answer
 
@@ -26,10 +23,9 @@ module _ (t : To.Top) (above : Outcome Look) (h : (below : Outcome Look) → top
 
 -- ---- the part
 
-neither : (m c : List ℕ) (r : Ly.Layered) → OneOf (1 ∷ 2 ∷ []) (tag_of Layered.the_type r) → part_by editions m c (layered_of r) ≡ no_part
+neither : (m c : List ℕ) (r : Ly.Layered) → ((layer : La.Layer) (o : ℕ) (v : ℤ) (w k : ℕ) → r ≡ Ly.Layered.Found layer o v w k → ⊥) → part_by editions m c (layered_of r) ≡ no_part
 unfolding part_by
-neither m c (Ly.Layered.Found layer o v w k) (inl z) = absurd (omega arith)
-neither m c (Ly.Layered.Found layer o v w k) (inr z) = absurd (omega arith)
+neither m c (Ly.Layered.Found layer o v w k) z = absurd (z _ _ _ _ _ refl)
 neither m c (Ly.Layered.Absent w k) t = refl
 neither m c (Ly.Layered.Refused layer why) t = refl
 
@@ -39,7 +35,7 @@ module _ (m c : List ℕ) (id : ℕ) (r : Ly.Layered) (e : layered_of r ≡ look
   by_answer = ap (part_by editions m c) e
 
   -- absent or refused
-  pub from_neither : OneOf (1 ∷ 2 ∷ []) (tag_of Layered.the_type r) → no_part ≡ layered_part editions m c id
+  pub from_neither : ((layer : La.Layer) (o : ℕ) (v : ℤ) (w k : ℕ) → r ≡ Ly.Layered.Found layer o v w k → ⊥) → no_part ≡ layered_part editions m c id
   from_neither t = sym (neither m c r t) ∙ by_answer
 
   -- found, in the column that is named

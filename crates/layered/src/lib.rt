@@ -1,5 +1,7 @@
 // A correction column on top of a machine column (document 02, [10]): a look-up prefers the correction, and hands back the value
 // section of whichever column holds the id as a part of it.
+#![tactic(auto)]
+
 ghost use Rattle.std.specs.Prelude.{◌≡◌};
 ghost use Rattle.format.specs.Refusals.{Outcome};
 ghost use Rattle.format.specs.Editions.{editions};
@@ -14,14 +16,14 @@ use answers::{Answer, Refusal};
 use column::{Column, Opening};
 
 // Which of the two columns.
-#[derive(Drop)]
+#[derive(Clone, Copy)]
 pub enum Layer {
     Machine,
     Correction,
 }
 
 // Found and refused name their column; found and absent carry the words of each column apart, 0 for one not looked in.
-#[derive(Drop)]
+#[derive(Clone, Copy)]
 pub enum Layered {
     Found {
         layer: Layer,
@@ -38,7 +40,7 @@ pub enum Layered {
 }
 
 // The sums of words of a page, each column's apart; or its refusal.
-#[derive(Drop)]
+#[derive(Clone, Copy)]
 pub enum LayeredReply {
     Done {
         machine_words: u64,
@@ -48,7 +50,7 @@ pub enum LayeredReply {
 }
 
 // How many pairs of both columns were read, and whether one is left; or the refusal of the first step, by its column.
-#[derive(Drop)]
+#[derive(Clone, Copy)]
 pub enum LayeredReadout {
     More(u64),
     Ended(u64),
@@ -75,7 +77,7 @@ fn answer_from(bytes: &[u8], id: u32) -> Answer
 // ---- the look-up
 
 // The correction's answer: it is the call's, or the id is absent there and the machine column is asked.
-#[derive(Drop)]
+#[derive(Clone, Copy)]
 enum Top {
     Settled(Layered),
     Absent(u64),
@@ -159,7 +161,7 @@ pub fn look_up_layered_in(
 // ---- the value section as a part of the lent column
 
 // So many bytes of one of the columns, from a place on.
-#[derive(Drop)]
+#[derive(Clone, Copy)]
 pub struct Part {
     pub layer: Layer,
     pub start: usize,

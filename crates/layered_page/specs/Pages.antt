@@ -1,6 +1,7 @@
 -- What a layered page leaves: lists before and after (with '), and the sums of words. `top` looks an id up in the correction, `low` in the machine
 -- column. Assumes nothing.
-use Rattle.format.specs.Kit.{◌≡◌, ℕ, ◌+◌, ◌%◌, ◌^◌, ◌≤◌, ◌<◌, List, ◌++◌, map, ℤ, drop, get_or, length}
+use Rattle.std.specs.Prelude.{◌≡◌, ◌+◌, ◌%◌, ◌^◌, ◌≤◌, ◌<◌, ◌++◌}
+use Rattle.format.specs.Kit.{ℕ, List, map, ℤ, drop, get_or, length}
 use Rattle.format.specs.Refusals.{Outcome, done, refused}
 use Rattle.format.specs.LookUp.{Look}
 use Rattle.format.specs.Page.{place_kind, place_ordinal, place_value, page_words}

@@ -1,6 +1,8 @@
 // A page of ids looked up in one call in a machine column with a correction on top (document 02, [10] and [3]; the page itself is no request of
 // document 02: docs/DECISIONS.md). The correction's page is stored in the lent lists; the ids that are absent there are looked up in the machine
 // column, part by part (under.rt), and each answer goes to its place.
+#![tactic(auto)]
+
 ghost use Rattle.std.specs.Prelude.{◌≡◌, ◌≤◌, ◌&&◌, ◌||◌, map, length, take, ◌==◌, nat_le};
 ghost use Rattle.std.proofs.lemmas.List.Edits.{sets};
 ghost use Rattle.format.specs.Editions.{editions};

@@ -97,7 +97,7 @@ fn lost(kinds: &[u8], ids: &[u32], bytes: &[u8], opening: Opening) -> u64
 }
 
 // The words of a part: the machine column's, and those that do not count in the correction.
-#[derive(Drop)]
+#[derive(Clone, Copy)]
 struct Counts {
     machine: u64,
     lost: u64,

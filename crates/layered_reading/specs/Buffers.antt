@@ -1,5 +1,6 @@
 -- What a buffer holds of a column, what a merge of two leaves, and how a reading ends. Lists afterwards have a '. Assumes nothing.
-use Rattle.format.specs.Kit.{ℕ, ◌≤◌, ◌<◌, ◌≡◌, true, false, List, ℤ, length}
+use Rattle.std.specs.Prelude.{◌≤◌, ◌<◌, ◌≡◌}
+use Rattle.format.specs.Kit.{ℕ, true, false, List, ℤ, length}
 use Rattle.format.specs.Limits.{max_id}
 use Rattle.format.specs.Opening.{Opened, head_ok, length_ok}
 use Rattle.format.specs.Next.{next_steps}

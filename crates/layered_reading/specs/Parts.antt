@@ -1,6 +1,7 @@
 -- What the loops of a layered reading keep: a buffer of one column's pairs, one column alone, and how a reading ends. Lists afterwards have a '.
 -- Assumes nothing.
-use Rattle.format.specs.Kit.{ℕ, ◌+◌, ◌-◌, ◌<◌, ◌≡◌, ◌⊎◌, Bool, true, List, map, ℤ, length, take, drop, sets, replicate}
+use Rattle.std.specs.Prelude.{◌+◌, ◌-◌, ◌<◌, ◌≡◌, ◌⊎◌}
+use Rattle.format.specs.Kit.{ℕ, Bool, true, List, map, ℤ, length, take, drop, sets, replicate}
 use Rattle.format.specs.Opening.{Opened}
 use Rattle.format.specs.Next.{next_steps}
 use Rattle.format.specs.ReadFrom.{pairs_from}

@@ -1,6 +1,7 @@
 -- A run of the machine column's pairs, from place m of its buffer up to place k, in the lent lists from place i on. Lists afterwards have a '.
 -- Assumes nothing.
-use Rattle.format.specs.Kit.{ℕ, zero, suc, ◌+◌, ◌-◌, ◌≤◌, ◌<◌, ◌≡◌, List, ℤ, length, get_or, set, sets, take, drop, replicate}
+use Rattle.std.specs.Prelude.{◌+◌, ◌-◌, ◌≤◌, ◌<◌, ◌≡◌}
+use Rattle.format.specs.Kit.{ℕ, zero, suc, List, ℤ, length, get_or, set, sets, take, drop, replicate}
 
 -- four elements in a row, from place i on
 abbrev pub set_four : {A : Type 0} → List A → ℕ → A → A → A → A → List A

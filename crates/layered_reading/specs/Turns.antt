@@ -1,6 +1,7 @@
 -- A part of a layered reading, as a loop's invariant: from place i of the lists and target t on, up to place i' and target t', with the lists before
 -- and after (with '). Parts that follow each other make one. Assumes nothing.
-use Rattle.format.specs.Kit.{ℕ, ◌-◌, ◌≤◌, ◌<◌, ◌≡◌, Bool, true, false, List, map, ℤ}
+use Rattle.std.specs.Prelude.{◌-◌, ◌≤◌, ◌<◌, ◌≡◌}
+use Rattle.format.specs.Kit.{ℕ, Bool, true, false, List, map, ℤ}
 use Rattle.format.specs.Stores.{Fill}
 use Rattle.format.specs.LayeredReading.{pair_id, pair_value, pair_column, LayeredPair, LayeredNext, next_pair, no_pair, refused_next, layered_steps}
 

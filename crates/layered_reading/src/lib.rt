@@ -1,5 +1,7 @@
 // The pairs of a machine column and of a correction on top of it, from an id on, in the order of ids. Each column's pairs are read into a buffer, and
 // the two are merged into the lent lists.
+#![tactic(auto)]
+
 ghost use Rattle.std.specs.Prelude.{◌≡◌, true, ◌&&◌, ◌+◌, ◌-◌, ◌≤◌, ◌<◌, min, eqb, leb, length, replicate};
 ghost use Rattle.std.proofs.lemmas.List.Edits.{sets};
 ghost use Rattle.format.specs.Limits.{max_id};
@@ -35,14 +37,14 @@ const PLACES: usize = 512;
 const FEW: usize = 16;
 
 // Of a buffer's pairs those from place `at` to place `count` are left; ended, where the column has none after them.
-#[derive(Drop)]
+#[derive(Clone, Copy)]
 struct Buffer {
     at: usize,
     count: usize,
     ended: bool,
 }
 
-#[derive(Drop)]
+#[derive(Clone, Copy)]
 enum Filling {
     Held(Buffer),
     Refused(Refusal),
@@ -117,7 +119,7 @@ fn spent(held: Buffer) -> bool
 // ---- two buffers merged
 
 // How many pairs the lists have, the id after the last of them, and where each buffer is.
-#[derive(Drop)]
+#[derive(Clone, Copy)]
 struct Met {
     count: usize,
     target: u64,

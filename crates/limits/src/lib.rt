@@ -5,6 +5,8 @@
 // ---- document 01, "Limits, each with one name and one place"
 
 // The greatest id, and the most pairs: one for each id.
+#![tactic(auto)]
+
 pub const MAX_ID: u32 = 2147352575;
 
 pub const MAX_COUNT: u64 = 2147352576;

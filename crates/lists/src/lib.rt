@@ -1,8 +1,10 @@
 // The pair lists that the cases run on, each made from a few numbers, and bytes that show whether they were changed.
+#![tactic(auto)]
+
 use std::num::wrapping_add_u64;
 
 // The ids first, first + gap and so on, that many.
-#[derive(Drop)]
+#[derive(Clone, Copy)]
 pub struct Run {
     pub first: u64,
     pub gap: u64,
@@ -10,7 +12,7 @@ pub struct Run {
 }
 
 // Ids in three runs, one after the other.
-#[derive(Drop)]
+#[derive(Clone, Copy)]
 pub struct Runs {
     pub low: Run,
     pub middle: Run,
@@ -18,7 +20,7 @@ pub struct Runs {
 }
 
 // Values smallest + (x << shift): x is 0 for the first value, `most` for the second, and any number below it for the others.
-#[derive(Drop)]
+#[derive(Clone, Copy)]
 pub struct Values {
     pub smallest: u64,
     pub most: u64,

@@ -1,5 +1,7 @@
 // Numbers of w bits each, packed into bytes low bit first (document 02, [6]), where none has bits in more than eight bytes: so it is with
 // Lucene 9's widths.
+#![tactic(auto)]
+
 ghost use Rattle.std.specs.Prelude.{◌≡◌, List, ℕ, ◌+◌, ◌-◌, ◌*◌, ◌/◌, ◌%◌, ◌^◌, ◌≤◌, ◌<◌, length, get_or};
 ghost use Rattle.format.specs.Bytes.{low_at};
 ghost use Rattle.format.specs.BitsLow.{bit_low_at, gather_low};

@@ -1,7 +1,5 @@
 -- From the id section's id to the call's answer. Assumes nothing.
 use Rattle.format.specs.Kit.{◌≡◌, refl, sym, ap, ◌∙◌, inl, inr, List, [], ◌∷◌, ℕ, ◌+◌, ◌*◌, ◌≤◌, arith, ne_eqb}
-use types.Run.{OneOf}
-use denote.Enum.Declared.{tag_of}
 use Rattle.format.specs.Limits.{max_id}
 use Rattle.format.specs.Refusals.{Outcome, done, refused, BROKEN}
 use Rattle.answers.specs.Replies.{candidate_of}
@@ -14,7 +12,6 @@ use Rattle.lookup.specs.Steps.{Asked}
 use Rattle.next.specs.Blocks.{AskedOf, reached, sum_of, Told}
 use Rattle.next.specs.declared.Met as Me
 use Rattle.next.specs.declared.Sum.{Sum}
-use Rattle.next.specs.contracts.Met as Met
 
 -- ---- what is asked
 
@@ -29,12 +26,10 @@ module _ (c : Opened) (id : ℕ) (q : Ask) (x : Asked c id q) where
   asked_block h = omega arith
 
 -- where a step failed
-pub not_reached : (bytes : List ℕ) (c : Opened) (y : Me.Met) → OneOf (1 ∷ 2 ∷ []) (tag_of Met.the_type y) → OneOf (0 ∷ 2 ∷ []) (tag_of Met.the_type y)
+pub not_reached : (bytes : List ℕ) (c : Opened) (y : Me.Met) → ((id o : ℕ) → y ≡ Me.Met.At id o → ⊥) → (y ≡ Me.Met.Nothing → ⊥)
     → (more : Outcome Nx.Candidate) → refused BROKEN 0 ≡ reached bytes c y more
-not_reached bytes c (Me.Met.At id o) (inl z) t more = absurd (omega arith)
-not_reached bytes c (Me.Met.At id o) (inr z) t more = absurd (omega arith)
-not_reached bytes c Me.Met.Nothing h (inl z) more = absurd (omega arith)
-not_reached bytes c Me.Met.Nothing h (inr z) more = absurd (omega arith)
+not_reached bytes c (Me.Met.At id o) z t more = absurd (z _ _ refl)
+not_reached bytes c Me.Met.Nothing h z more = absurd (z refl)
 not_reached bytes c Me.Met.Broken h t more = refl
 
 -- ---- the words of a sum

@@ -1,8 +1,6 @@
 -- The ids of one block, told by the places of the block. Assumes nothing.
 use Rattle.format.specs.Kit.{◌≡◌, refl, sym, ◌∙◌, inl, inr, false, ◌&&◌, List, [], ◌∷◌, ℕ, zero, suc, ◌+◌, ◌-◌, ◌*◌, ◌≤◌, ◌<◌, arith, Option, none, some, ℤ}
 use Rattle.format.specs.Kit.{leb}
-use types.Run.{OneOf}
-use denote.Enum.Declared.{tag_of}
 use Rattle.format.specs.Refusals.{Outcome, done, refused, and_then, given, BROKEN}
 use Rattle.format.specs.Ids.{data_bytes}
 use Rattle.format.specs.Opening.{Opened, id_part, value_of}
@@ -17,7 +15,6 @@ use Rattle.lookup.proofs.Parts.{from_head, of_block, steps_parts, block_parts, n
 use Rattle.next_in_block.specs.First as Fs
 use Rattle.next_in_block.specs.First.{meets, meets_none, fails, meets_by, first_in, first_of}
 use Rattle.next_in_block.specs.declared.First as Fi
-use Rattle.next_in_block.specs.contracts.First as First
 use Rattle.next.specs.Blocks.{AskedOf, reached}
 use Rattle.next.specs.declared.Met as Me
 
@@ -108,10 +105,8 @@ pub place_there : (bytes : List ℕ) (c : Opened) (b o x i : ℕ) (id y : ℕ) �
     → reached bytes c (Me.Met.At id y) more ≡ placed bytes c b o (first_of (Fi.First.At x i)) more
 place_there bytes c b o x i id y e f more = rw (e, f)
 
-pub place_broken : (bytes : List ℕ) (c : Opened) (b o : ℕ) (p : Fi.First) → OneOf (1 ∷ 2 ∷ []) (tag_of First.the_type p)
-    → OneOf (0 ∷ 2 ∷ []) (tag_of First.the_type p) → (more : Outcome Candidate) → refused BROKEN 0 ≡ placed bytes c b o (first_of p) more
-place_broken bytes c b o (Fi.First.At x i) (inl z) t more = absurd (omega arith)
-place_broken bytes c b o (Fi.First.At x i) (inr z) t more = absurd (omega arith)
-place_broken bytes c b o Fi.First.Nothing h (inl z) more = absurd (omega arith)
-place_broken bytes c b o Fi.First.Nothing h (inr z) more = absurd (omega arith)
+pub place_broken : (bytes : List ℕ) (c : Opened) (b o : ℕ) (p : Fi.First) → ((x i : ℕ) → p ≡ Fi.First.At x i → ⊥)
+    → (p ≡ Fi.First.Nothing → ⊥) → (more : Outcome Candidate) → refused BROKEN 0 ≡ placed bytes c b o (first_of p) more
+place_broken bytes c b o (Fi.First.At x i) z t more = absurd (z _ _ refl)
+place_broken bytes c b o Fi.First.Nothing h z more = absurd (z refl)
 place_broken bytes c b o Fi.First.Broken h t more = refl

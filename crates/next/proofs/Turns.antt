@@ -1,7 +1,5 @@
 -- The turns of a loop over the blocks. Assumes nothing.
 use Rattle.format.specs.Kit.{◌≡◌, refl, sym, ◌∙◌, inl, inr, List, [], ◌∷◌, ℕ, ◌+◌, ◌-◌, ◌*◌, ◌≤◌, ◌<◌, arith}
-use types.Run.{OneOf}
-use denote.Enum.Declared.{tag_of}
 use Rattle.format.specs.Limits.{max_id}
 use Rattle.format.specs.Refusals.{done}
 use Rattle.format.specs.Opening.{Opened, id_part}
@@ -10,7 +8,6 @@ use Rattle.laws.proofs.InTurn.{apart}
 use Rattle.lookup.specs.declared.Ask.{Ask}
 use Rattle.next.specs.Blocks.{AskedOf, BlockAs, WalkedAs}
 use Rattle.next.specs.declared.Met as Me
-use Rattle.next.specs.contracts.Met as Met
 
 -- the ids from place r of block b on are left
 abbrev pub Left : List ℕ → Ask → ℕ → ℕ → Type 0
@@ -38,10 +35,9 @@ module _ (s : List ℕ) (q : Ask) where
     left_on n bytes c x h = block_apart bytes c x h ∙ sym (n.left bytes c x h _)
 
     -- an id and a failed step do not ask what is above
-    pub left_met : (y : Me.Met) → BlockAs s q b r y → OneOf (0 ∷ 2 ∷ []) (tag_of Met.the_type y) → WalkedAs s q y
+    pub left_met : (y : Me.Met) → BlockAs s q b r y → (y ≡ Me.Met.Nothing → ⊥) → WalkedAs s q y
     left_met (Me.Met.At id o) n t = record { left = λ bytes c x h. n.left bytes c x h _ ∙ sym (block_apart bytes c x h); listed = n.listed }
-    left_met Me.Met.Nothing n (inl z) = absurd (omega arith)
-    left_met Me.Met.Nothing n (inr z) = absurd (omega arith)
+    left_met Me.Met.Nothing n z = absurd (z refl)
     left_met Me.Met.Broken n t = record { left = λ bytes c x h. n.left bytes c x h _ ∙ sym (block_apart bytes c x h); listed = n.listed }
 
   pub left_none : (b r : ℕ) → Left s q b r → 32766 ≤ b → WalkedAs s q Me.Met.Nothing

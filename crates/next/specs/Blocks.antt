@@ -1,5 +1,6 @@
 -- What the code's steps over blocks stand for. Assumes nothing.
-use Rattle.format.specs.Kit.{ℕ, ◌+◌, ◌-◌, ◌*◌, ◌≤◌, ◌<◌, ◌≡◌, cond, List, eqb}
+use Rattle.std.specs.Prelude.{◌+◌, ◌-◌, ◌*◌, ◌≤◌, ◌<◌, ◌≡◌}
+use Rattle.format.specs.Kit.{ℕ, cond, List, eqb}
 use Rattle.format.specs.Limits.{max_id, max_block, block_places}
 use Rattle.format.specs.Refusals.{Outcome, done, refused, and_then, given, BROKEN}
 use Rattle.answers.specs.Replies.{candidate_of}

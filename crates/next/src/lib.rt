@@ -1,4 +1,6 @@
 // The next scored candidate (document 02, [1]): the first listed id at or above a target, block by block.
+#![tactic(auto)]
+
 ghost use Rattle.std.specs.Prelude.{◌≡◌, true, ℕ, ◌+◌, ◌*◌, ◌≤◌, ◌<◌, length, ltb};
 ghost use Rattle.format.specs.Limits.{max_id, max_block, block_places};
 ghost use Rattle.format.specs.Editions.{editions};
@@ -21,7 +23,7 @@ use values::Fetched;
 const BLOCKS: usize = limits::MAX_BLOCKS as usize;
 
 // An id of the id section with its ordinal, none, or a failed step.
-#[derive(Drop)]
+#[derive(Clone, Copy)]
 enum Met {
     At { id: u32, ordinal: u64 },
     Nothing,
@@ -120,7 +122,7 @@ const FAILED: u64 = 2;
 
 // What the steps come to, in whole words: found, with id, ordinal and value; absent; a failed step. (Ordinal and value stand apart, since the
 // callers would read them as one number of 16 bytes just after they were written as two, which stalls.)
-#[derive(Drop)]
+#[derive(Clone, Copy)]
 pub struct Sum {
     pub ordinal: u64,
     pub kind: u64,

@@ -1,5 +1,6 @@
 -- The first place of a block, from a place on, that is not absent (document 02, [1], within one block). Assumes nothing.
-use Rattle.format.specs.Kit.{ℕ, zero, suc, ◌+◌, ◌-◌, ◌*◌, ◌/◌, ◌%◌, ◌^◌, ◌≤◌, ◌<◌, ◌≡◌, List, drop, ones_in}
+use Rattle.std.specs.Prelude.{◌+◌, ◌-◌, ◌*◌, ◌/◌, ◌%◌, ◌^◌, ◌≤◌, ◌<◌, ◌≡◌}
+use Rattle.format.specs.Kit.{ℕ, zero, suc, List, drop, ones_in}
 use Rattle.format.specs.Limits.{block_places}
 use Rattle.format.specs.Bytes.{low_at}
 use Rattle.format.specs.Ids.{rank_bytes}

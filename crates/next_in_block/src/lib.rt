@@ -1,5 +1,7 @@
 // The first place of a block, from a place on, that is not absent (document 02, [1]): one scan of a sparse block, the longs of a dense
 // block from the place's own on, a full block at once.
+#![tactic(auto)]
+
 ghost use Rattle.std.specs.Prelude.{◌≡◌, false, ◌||◌, ℕ, ◌+◌, ◌-◌, ◌*◌, ◌/◌, ◌^◌, ◌≤◌, ◌<◌, length, leb};
 ghost use Rattle.std.specs.Int.Count.{count_trailing_zeros};
 ghost use Rattle.format.specs.Bytes.{low_at};
@@ -12,7 +14,7 @@ ghost use Rattle.next_in_block.specs.First.{first_in, scan_at, entry_in, inner_i
 use blocks::{Block, Kind};
 
 // A place and its index in the block, none, or a failed step.
-#[derive(Drop)]
+#[derive(Clone, Copy)]
 pub enum First {
     At { place: usize, inner: u64 },
     Nothing,

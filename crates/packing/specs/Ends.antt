@@ -1,5 +1,6 @@
 -- The ends of a byte string. Assumes nothing.
-use Rattle.format.specs.Kit.{◌≡◌, List, ℕ, ◌-◌, ◌*◌, ◌≤◌, length}
+use Rattle.std.specs.Prelude.{◌≡◌, ◌-◌, ◌*◌, ◌≤◌}
+use Rattle.format.specs.Kit.{List, ℕ, length}
 use Rattle.format.specs.Bytes.{low_at}
 use Rattle.packing.specs.declared.Ends.{Ends}
 

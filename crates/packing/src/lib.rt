@@ -1,4 +1,6 @@
 // Numbers of w bits each, packed into bytes high bit first.
+#![tactic(auto)]
+
 ghost use Rattle.std.specs.Prelude.{◌≡◌, List, ℕ, ◌+◌, ◌-◌, ◌*◌, ◌/◌, ◌%◌, ◌^◌, ◌≤◌, ◌<◌, length, get_or};
 ghost use Rattle.format.specs.Limits.{max_count, max_width};
 ghost use Rattle.format.specs.Bits.{bit_at, gather, bit_bytes, packed_bytes};
@@ -7,7 +9,7 @@ ghost use Rattle.packing.specs.Ends.{EndsOf};
 ghost use Rattle.packing.specs.Stream.{Stored, Pushed, Finished};
 
 // Numbers that are written one after the other: at bytes are full, and have bits wait, as the number acc.
-#[derive(Drop)]
+#[derive(Clone, Copy)]
 pub struct Pending {
     pub at: usize,
     pub have: usize,
@@ -99,7 +101,7 @@ pub fn window(s: &[u8], at: usize, skip: usize) -> u64
 }
 
 // The ends of a byte string: its first k bytes and its last k, each as a number low byte first.
-#[derive(Drop)]
+#[derive(Clone, Copy)]
 pub struct Ends {
     pub front: u64,
     pub back: u64,

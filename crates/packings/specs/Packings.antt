@@ -1,6 +1,7 @@
 -- The code's packings as the definitions' own, and what the code asks of each: the width before another, where the bits of a word stand,
 -- the spare bits. Assumes nothing.
-use Rattle.format.specs.Kit.{ℕ, ◌+◌, ◌-◌, ◌*◌, ◌/◌, ◌%◌, ◌^◌, ◌≤◌, Bool, cond, List, length, get_or, leb, eqb}
+use Rattle.std.specs.Prelude.{◌+◌, ◌-◌, ◌*◌, ◌/◌, ◌%◌, ◌^◌, ◌≤◌}
+use Rattle.format.specs.Kit.{ℕ, Bool, cond, List, length, get_or, leb, eqb}
 use Rattle.format.specs.Bits.{gather}
 use Rattle.format.specs.BitsLow.{gather_low}
 use Rattle.format.specs.Codec.{Packing}

@@ -1,5 +1,7 @@
 // The packings: high bit first at the least width (document 01), and low bit first at the least of Lucene 9's widths (document 02, [6]).
 // This crate alone knows what differs between them; each function hands on to the packing's own.
+#![tactic(auto)]
+
 ghost use Rattle.std.specs.Prelude.{◌≡◌, true, List, ℕ, ◌+◌, ◌*◌, ◌^◌, ◌≤◌, ◌<◌, length, take, drop, get_or};
 ghost use Rattle.format.specs.Limits.{max_count, max_width};
 ghost use Rattle.format.specs.Bits.{bit_bytes, fetched_bytes};
@@ -12,7 +14,7 @@ use packing::Pending;
 // Lucene 9's widths, a bit for each; that of 0 is also that of 64.
 const LISTED: u64 = 72340173107564823;
 
-#[derive(Drop)]
+#[derive(Clone, Copy)]
 pub enum Order {
     // Document 01's, edition 1.
     High,
@@ -21,7 +23,7 @@ pub enum Order {
 }
 
 // A number that was fetched, and how many bytes were taken for it.
-#[derive(Drop)]
+#[derive(Clone, Copy)]
 pub struct Taken {
     pub number: u64,
     pub bytes: usize,

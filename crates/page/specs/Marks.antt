@@ -1,5 +1,6 @@
 -- Where an id stands, and what is left of the look-up's steps then. Assumes nothing.
-use Rattle.format.specs.Kit.{◌≡◌, List, Option, ℕ, ◌+◌, ◌/◌, ◌%◌, ◌≤◌, ◌<◌, ℤ, length}
+use Rattle.std.specs.Prelude.{◌≡◌, ◌+◌, ◌/◌, ◌%◌, ◌≤◌, ◌<◌}
+use Rattle.format.specs.Kit.{List, Option, ℕ, ℤ, length}
 use Rattle.format.specs.Limits.{block_places}
 use Rattle.format.specs.Refusals.{Outcome, done, refused, and_then, given, BROKEN}
 use Rattle.format.specs.Ids.{kind_of, data_bytes}

@@ -1,5 +1,6 @@
 -- An id looked up in bytes whose header was opened, or refused, before. Assumes nothing.
-use Rattle.format.specs.Kit.{◌≡◌, true, List, ℕ, leb}
+use Rattle.std.specs.Prelude.{◌≡◌}
+use Rattle.format.specs.Kit.{true, List, ℕ, leb}
 use Rattle.format.specs.Limits.{max_id}
 use Rattle.format.specs.Refusals.{Outcome, and_then, need, ID}
 use Rattle.format.specs.Opening.{Opened, head_ok, length_ok}

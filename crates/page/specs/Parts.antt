@@ -1,5 +1,6 @@
 -- A part of a page: ids i to e (e not included), the lists before and after, and the words. Assumes nothing.
-use Rattle.format.specs.Kit.{◌≡◌, List, ℕ, zero, suc, ◌+◌, ◌-◌, ◌%◌, ◌^◌, ◌≤◌, ◌<◌, ℤ, pos, length, get_or}
+use Rattle.std.specs.Prelude.{◌≡◌, ◌+◌, ◌-◌, ◌%◌, ◌^◌, ◌≤◌, ◌<◌}
+use Rattle.format.specs.Kit.{List, ℕ, zero, suc, ℤ, pos, length, get_or}
 use Rattle.format.specs.Refusals.{Outcome}
 use Rattle.format.specs.LookUp.{Look}
 use Rattle.format.specs.Page.{place_words}

@@ -1,5 +1,6 @@
 -- What one place of a page holds, and what a page leaves: the three lists before and after (with '), and the words. Assumes nothing.
-use Rattle.format.specs.Kit.{◌≡◌, List, ℕ, ◌≤◌, ◌%◌, ◌^◌, ℤ, map, set, sets}
+use Rattle.std.specs.Prelude.{◌≡◌, ◌≤◌, ◌%◌, ◌^◌}
+use Rattle.format.specs.Kit.{List, ℕ, ℤ, map, set, sets}
 use Rattle.format.specs.Refusals.{Outcome}
 use Rattle.format.specs.LookUp.{Look}
 use Rattle.format.specs.Page.{place_kind, place_ordinal, place_value, place_words, page_words, page_reply, page_after}

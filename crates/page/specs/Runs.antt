@@ -1,5 +1,6 @@
 -- Ids that ascend in one block, and the entry of a sparse block to which one comes from that of the one before. Assumes nothing.
-use Rattle.format.specs.Kit.{◌≡◌, List, ℕ, ◌+◌, ◌*◌, ◌/◌, ◌≤◌, ◌<◌, get_or}
+use Rattle.std.specs.Prelude.{◌≡◌, ◌+◌, ◌*◌, ◌/◌, ◌≤◌, ◌<◌}
+use Rattle.format.specs.Kit.{List, ℕ, get_or}
 use Rattle.format.specs.Limits.{block_places, max_id}
 use Rattle.format.specs.Bytes.{low_at}
 use Rattle.format.specs.Ids.{sparse, dense, kind_of}

@@ -1,5 +1,7 @@
 // A page of ids looked up in one call (document 02, [3]): the header is opened once, and each place gets what the single look-up gives.
 // Where an id stands is found in marks.rt; ids that ascend in one block go on from one to the next there (runs.rt).
+#![tactic(auto)]
+
 ghost use Rattle.std.specs.Prelude.{◌≡◌, ℕ, ◌+◌, ◌/◌, ◌<◌, ◌≤◌, true, ◌&&◌, List, map, length, ◌==◌, nat_le, slice_index};
 ghost use Rattle.format.specs.Limits.{block_places};
 ghost use Rattle.format.specs.Refusals.{done};
@@ -36,7 +38,7 @@ const FOUND: u8 = answers::FOUND as u8;
 const ABSENT: u8 = answers::ABSENT as u8;
 
 // What a place holds, and the words that count. (Ordinal and value stand apart, as in `next::Sum`.)
-#[derive(Drop)]
+#[derive(Clone, Copy)]
 struct Held {
     ordinal: u64,
     kind: u8,

@@ -18,7 +18,7 @@ use lookup::Step;
 // ---- steps 5 and 6
 
 // Where an id stands: its ordinal and the words counted; not there, with the words; or a failed step.
-#[derive(Drop)]
+#[derive(Clone, Copy)]
 pub enum Mark {
     At { ordinal: u64, words: u64 },
     Absent { words: u64 },

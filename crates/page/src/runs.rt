@@ -28,7 +28,7 @@ use values::{Edition, Fetched};
 // ---- which ids are a run
 
 // A part of the page: where it ends, and whether its ids are a run.
-#[derive(Drop)]
+#[derive(Clone, Copy)]
 pub struct Part {
     pub end: usize,
     pub run: bool,

@@ -1,5 +1,6 @@
 -- The block that holds an ordinal, and the place with an index there. Assumes nothing.
-use Rattle.format.specs.Kit.{ℕ, ◌+◌, ◌-◌, ◌*◌, ◌^◌, ◌≤◌, ◌<◌, ◌≡◌, cond, true, false, ◌&&◌, ◌||◌, List, Option, none, some, leb, ltb, eqb, length}
+use Rattle.std.specs.Prelude.{◌+◌, ◌-◌, ◌*◌, ◌^◌, ◌≤◌, ◌<◌, ◌≡◌, ◌&&◌, ◌||◌}
+use Rattle.format.specs.Kit.{ℕ, cond, true, false, List, Option, none, some, leb, ltb, eqb, length}
 use Rattle.format.specs.Limits.{max_block, block_places}
 use Rattle.format.specs.Refusals.{Outcome, refused, and_then, given, done, BROKEN}
 use Rattle.format.specs.Bytes.{low_at, high_at}

@@ -1,4 +1,6 @@
 // The pair with an ordinal: its block by halving the jump entries, its place there by its index, its value by step 7.
+#![tactic(auto)]
+
 ghost use Rattle.std.specs.Prelude.{◌≡◌, true, ◌≤◌, ◌<◌, length};
 ghost use Rattle.format.specs.Editions.{editions};
 ghost use Rattle.format.specs.Opening.{head_ok, length_ok, value_of};
@@ -25,7 +27,7 @@ const BLOCKS: usize = 32766;
 // ---- steps 1 to 4
 
 // The block that holds an ordinal, with its number; or a failed step.
-#[derive(Drop)]
+#[derive(Clone, Copy)]
 enum Held {
     In { number: usize, block: Block },
     Broken,

@@ -1,4 +1,6 @@
 // Plans (document 02, [12]): the small check of one, and the planner, which nobody need trust.
+#![tactic(auto)]
+
 ghost use Rattle.std.specs.Prelude.{◌≡◌, true, false, ◌++◌, map, ◌≤◌, length, drop};
 ghost use Rattle.format.specs.Limits.{max_count};
 ghost use Rattle.format.specs.Pairs.{Each, Fits};

@@ -1,7 +1,5 @@
 -- Steps 1 to 4 for a block, told of each of its places. Assumes nothing.
 use Rattle.format.specs.Kit.{◌≡◌, refl, ◌∙◌, inl, inr, false, ◌&&◌, List, [], ◌∷◌, ℕ, ◌+◌, ◌≤◌, arith, leb, length}
-use types.Run.{OneOf}
-use denote.Enum.Declared.{tag_of}
 use Rattle.format.specs.Refusals.{Outcome}
 use Rattle.format.specs.Ids.{data_bytes}
 use Rattle.format.specs.LookUp.{Look, scanned}
@@ -11,15 +9,13 @@ use Rattle.lookup.specs.declared.Entry.{Entry}
 use Rattle.lookup.specs.declared.Step as St
 use Rattle.lookup.specs.Steps.{Fair, Jumped, Stepped, at_block, Reached, Roomy}
 use Rattle.lookup.proofs.Parts.{block_parts, no_room, room}
-use Rattle.lookup.specs.contracts.Step as Step
 use Rattle.next.proofs.OneBlock.{ask_for, entered}
 use Rattle.read_from.specs.Blocks.{MetAs}
 
 module _ (s : List ℕ) (q : Ask) (b : ℕ) (e : Entry) (j : Jumped s q.entries q.jumps b e) where
   -- steps 2 and 3 fail, or the block is another one
-  pub not_there : (st : St.Step) → OneOf (1 ∷ 2 ∷ []) (tag_of Step.the_type st) → Stepped s q.entries q.jumps b e st → MetAs s q b st
-  not_there (St.Step.At k) (inl z) g = absurd (omega arith)
-  not_there (St.Step.At k) (inr z) g = absurd (omega arith)
+  pub not_there : (st : St.Step) → ((k : Block) → st ≡ St.Step.At k → ⊥) → Stepped s q.entries q.jumps b e st → MetAs s q b st
+  not_there (St.Step.At k) z g = absurd (z _ refl)
   not_there St.Step.Absent t g = λ bytes c x h y l. entered bytes c s q b e x h j y l ∙ g.0 _
   not_there St.Step.Broken t g = λ bytes c x h y l. entered bytes c s q b e x h j y l ∙ g _
 

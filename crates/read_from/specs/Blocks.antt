@@ -1,5 +1,6 @@
 -- What the code's reading over blocks stands for, and its answer. Assumes nothing.
-use Rattle.format.specs.Kit.{ℕ, ◌+◌, ◌*◌, ◌≤◌, ◌<◌, ◌≡◌, ◌⊎◌, Bool, true, false, List, ℤ, length}
+use Rattle.std.specs.Prelude.{◌+◌, ◌*◌, ◌≤◌, ◌<◌, ◌≡◌, ◌⊎◌}
+use Rattle.format.specs.Kit.{ℕ, Bool, true, false, List, ℤ, length}
 use Rattle.format.specs.Limits.{block_places}
 use Rattle.format.specs.Refusals.{Outcome, done, refused, BROKEN}
 use Rattle.format.specs.Opening.{Opened, head_ok, length_ok, id_part}

@@ -1,4 +1,6 @@
 // The pairs from an id on, block by block, into lent lists of ids and values.
+#![tactic(auto)]
+
 ghost use Rattle.std.specs.Prelude.{◌≡◌, true, false, ◌+◌, ◌*◌, ◌≤◌, ◌<◌, min, length};
 ghost use Rattle.format.specs.Limits.{max_id, max_block, block_places};
 ghost use Rattle.format.specs.Editions.{editions};
@@ -105,7 +107,7 @@ fn kind_after(bytes: &[u8], column: Column, b: usize, part: Stretch) -> u64
 }
 
 // How many pairs the lists hold, and what comes next.
-#[derive(Drop)]
+#[derive(Clone, Copy)]
 struct Stop {
     count: usize,
     kind: u64,

@@ -22,13 +22,13 @@ use Rattle.read_in_block.proofs.Rows.{InRow, row_part}
 pub bits_length : (b r rest k : ℕ) → length (bits_from b r rest k) ≡ k
 unfolding bits_from
 bits_length b r rest zero = refl
-bits_length b r rest (suc k) = ap suc (bits_length b _ _ k)
+bits_length b r rest (suc k) = ap suc (bits_length b (suc (r + count_trailing_zeros 64 rest)) _ k)
 
 pub bits_take : (b r rest n k : ℕ) → n ≤ k → take n (bits_from b r rest k) ≡ bits_from b r rest n
 unfolding bits_from
 bits_take b r rest zero k h = refl
 bits_take b r rest (suc n) zero h = absurd (omega (arith, h))
-bits_take b r rest (suc n) (suc k) h = ap (λ (xs : List ℕ). (b * 65536 + (r + count_trailing_zeros 64 rest)) ∷ xs) (bits_take b _ _ n k (omega (arith, h)))
+bits_take b r rest (suc n) (suc k) h = ap (λ (xs : List ℕ). (b * 65536 + (r + count_trailing_zeros 64 rest)) ∷ xs) (bits_take b (suc (r + count_trailing_zeros 64 rest)) _ n k (omega (arith, h)))
 
 pub bits_more : (b r rest n : ℕ) → let z = count_trailing_zeros 64 rest in
     bits_from b r rest (suc n) ≡ (b * 65536 + (r + z)) ∷ bits_from b (r + z + 1) (rest / 2 ^ (z + 1)) n

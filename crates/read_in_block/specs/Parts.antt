@@ -1,6 +1,7 @@
 -- A part of a reading: from place i of the lists and the id t on, up to place i' and the id t', with the lists before and after (with ').
 -- Parts that follow each other make one. Assumes nothing.
-use Rattle.format.specs.Kit.{ℕ, ◌-◌, ◌≤◌, ◌<◌, ◌≡◌, true, List, ℤ}
+use Rattle.std.specs.Prelude.{◌-◌, ◌≤◌, ◌<◌, ◌≡◌}
+use Rattle.format.specs.Kit.{ℕ, true, List, ℤ}
 use Rattle.format.specs.Opening.{Opened}
 use Rattle.format.specs.Next.{next_steps}
 use Rattle.format.specs.Stores.{Fill}

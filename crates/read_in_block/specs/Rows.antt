@@ -1,5 +1,6 @@
 -- Ids in a row. Assumes nothing.
-use Rattle.format.specs.Kit.{ℕ, zero, suc, ◌+◌, ◌-◌, ◌*◌, ◌/◌, ◌^◌, ◌≤◌, ◌<◌, ◌≡◌, List, [], ◌∷◌, ◌++◌, ones_in, count_trailing_zeros}
+use Rattle.std.specs.Prelude.{◌+◌, ◌-◌, ◌*◌, ◌/◌, ◌^◌, ◌≤◌, ◌<◌, ◌≡◌, ◌∷◌, ◌++◌}
+use Rattle.format.specs.Kit.{ℕ, zero, suc, List, [], ones_in, count_trailing_zeros}
 use Rattle.format.specs.Limits.{block_places}
 use Rattle.format.specs.Bytes.{low_at}
 use Rattle.next_in_block.specs.First.{entry_in}

@@ -1,5 +1,6 @@
 -- The pairs of one block from a place on. Assumes nothing.
-use Rattle.format.specs.Kit.{ℕ, zero, suc, ◌+◌, ◌-◌, ◌*◌, ◌/◌, ◌%◌, ◌^◌, ◌≤◌, ◌<◌, ◌≡◌, Bool, true, false, List, ℤ, length, ones_in, ◌⊎◌}
+use Rattle.std.specs.Prelude.{◌+◌, ◌-◌, ◌*◌, ◌/◌, ◌%◌, ◌^◌, ◌≤◌, ◌<◌, ◌≡◌, ◌⊎◌}
+use Rattle.format.specs.Kit.{ℕ, zero, suc, Bool, true, false, List, ℤ, length, ones_in}
 use Rattle.format.specs.Limits.{max_block, block_places, bitmap_longs}
 use Rattle.format.specs.Refusals.{refused, BROKEN}
 use Rattle.format.specs.Bytes.{low_at}

@@ -102,7 +102,7 @@ fn in_long(
 // ---- whole longs
 
 // Longs whose ids follow each other: how many ids, and the place after them.
-#[derive(Drop)]
+#[derive(Clone, Copy)]
 struct Longs {
     ones: usize,
     place: usize,
@@ -184,7 +184,7 @@ fn put_longs(
 }
 
 // How many pairs the lists hold, the place that comes next, and whether a step failed there.
-#[derive(Drop)]
+#[derive(Clone, Copy)]
 struct Row {
     count: usize,
     place: usize,

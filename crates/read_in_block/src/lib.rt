@@ -1,5 +1,7 @@
 // The pairs of one block from a place on, into lent lists: one pass over the entries of a sparse block, the longs of a dense one, or all
 // places. Each pair is what the look-up's steps give for its id, in whatever order damaged entries stand and whatever ranks say.
+#![tactic(auto)]
+
 ghost use Rattle.std.specs.Prelude.{◌≡◌, true, ◌+◌, ◌-◌, ◌≤◌, ◌<◌, length};
 ghost use Rattle.std.proofs.lemmas.List.Edits.{sets};
 ghost use Rattle.format.specs.Limits.{block_places};
@@ -23,7 +25,7 @@ const FEW: usize = 6;
 
 // How many pairs the lists hold, the place of the block that comes next, and whether a step failed there. `left`: the block has an id from that place
 // on, whatever its value is; else nothing is known of what comes.
-#[derive(Drop)]
+#[derive(Clone, Copy)]
 pub struct Stretch {
     pub count: usize,
     pub place: usize,

@@ -1,5 +1,6 @@
 -- What a reading leaves: its reply, and the two buffers afterwards. Assumes nothing.
-use Rattle.format.specs.Kit.{◌≡◌, List, ℕ, ℤ}
+use Rattle.std.specs.Prelude.{◌≡◌}
+use Rattle.format.specs.Kit.{List, ℕ, ℤ}
 use Rattle.format.specs.Refusals.{Outcome, done}
 use Rattle.format.specs.Pairs.{Pairs}
 use Rattle.format.specs.Editions.{editions}

@@ -1,4 +1,6 @@
 // The full reading (document 01, "Refusal numbers": 7 to 11, 12, 13): all is verified before anything is written.
+#![tactic(auto)]
+
 ghost use Rattle.std.specs.Prelude.{◌≡◌, ◌≤◌, length};
 ghost use Rattle.format.specs.Refusals.{done};
 ghost use Rattle.format.specs.Editions.{editions};

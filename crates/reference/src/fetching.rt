@@ -3,7 +3,7 @@ use super::bytes;
 use super::bytes::{minus, plus};
 
 // The number, and how many bytes its bits are in.
-#[derive(Drop)]
+#[derive(Clone, Copy)]
 pub struct Fetched {
     pub number: u64,
     pub bytes: u64,

@@ -1,7 +1,7 @@
 // The header (document 01, "Header"): nine numbers in groups of seven bits.
 use super::bytes::put;
 
-#[derive(Drop)]
+#[derive(Clone, Copy)]
 pub struct Fields {
     pub edition: u64,
     pub count: u64,

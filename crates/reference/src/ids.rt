@@ -3,7 +3,7 @@ use super::bytes;
 use super::bytes::{minus, plus, put, put_low};
 
 // Where a section goes: its start, where its jump entries stand and how many, and its rank power.
-#[derive(Drop)]
+#[derive(Clone, Copy)]
 pub struct Section {
     pub base: u64,
     pub table: u64,
@@ -12,14 +12,14 @@ pub struct Section {
 }
 
 // Where the next block goes: its start within the section, and how many ids stand before it.
-#[derive(Drop)]
+#[derive(Clone, Copy)]
 struct Next {
     start: u64,
     before: u64,
 }
 
 // A block whose data are put: where they start, the id of its place 0, the index of its first id, and how they are laid out.
-#[derive(Drop)]
+#[derive(Clone, Copy)]
 struct Block {
     at: u64,
     first: u64,

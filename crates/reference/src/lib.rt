@@ -1,6 +1,8 @@
 // A second writer, from documents 01 and 02 alone and in another way than the library's: block number after block number, place after place
 // and bit after bit, every length what the same functions put on no bytes; and a second fetch. It shares no function with the library, and
 // promises nothing but to be safe. It knows editions 1 and 2; `rust/reference` knows all.
+#![tactic(auto)]
+
 mod bytes;
 pub mod fetching;
 mod header;
@@ -11,7 +13,7 @@ use bytes::{minus, plus};
 use header::Fields;
 
 // The refusal's number, or 0, and the number with it; with 0 the column's byte count.
-#[derive(Drop)]
+#[derive(Clone, Copy)]
 pub struct Outcome {
     pub number: u64,
     pub with: u64,

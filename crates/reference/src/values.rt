@@ -3,7 +3,7 @@ use super::bytes;
 use super::bytes::{ZERO, minus, plus};
 
 // What values have in common: the smallest, the greatest, and the greatest common divisor of each one's difference to the first.
-#[derive(Drop)]
+#[derive(Clone, Copy)]
 struct Span {
     smallest: u64,
     greatest: u64,
@@ -11,7 +11,7 @@ struct Span {
 }
 
 // What values are packed by.
-#[derive(Drop)]
+#[derive(Clone, Copy)]
 pub struct Facts {
     edition: u64,
     pub smallest: u64,

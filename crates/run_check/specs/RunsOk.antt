@@ -1,5 +1,6 @@
 -- The tests of a value section of edition 3 (document 02, [11]), given n and the header's g, which keep the header rules. Assumes nothing.
-use Rattle.format.specs.Kit.{ℕ, zero, suc, ◌+◌, ◌-◌, ◌*◌, ◌/◌, ◌%◌, ◌^◌, min, Bool, ◌&&◌, ◌||◌, List, length, take, drop, leb, eqb}
+use Rattle.std.specs.Prelude.{◌+◌, ◌-◌, ◌*◌, ◌/◌, ◌%◌, ◌^◌, ◌&&◌, ◌||◌}
+use Rattle.format.specs.Kit.{ℕ, zero, suc, min, Bool, List, length, take, drop, leb, eqb}
 use Rattle.format.specs.Limits.{max_width}
 use Rattle.format.specs.Bits.{packed_bytes, unpacked}
 use Rattle.format.specs.Values.{over, gcd, gcd_from}

@@ -1,4 +1,6 @@
 // The check of a value section of edition 3 (document 02, [11]) that keeps the header rules: run by run, each by its own bytes.
+#![tactic(auto)]
+
 ghost use Rattle.std.specs.Prelude.{◌≡◌, true, ◌||◌, ℕ, ◌+◌, ◌-◌, ◌*◌, ◌^◌, ◌≤◌, ◌<◌, eqb, leb, length, drop};
 ghost use Rattle.format.specs.Limits.{max_count, max_width};
 ghost use Rattle.format.specs.Bits.{unpacked};
@@ -95,7 +97,7 @@ fn range_ok(x: Summary, g: u64, lo: u64, hi: u64) -> bool
 }
 
 // A run that passed, with the common divisor of its numbers and those before; or one that did not.
-#[derive(Drop)]
+#[derive(Clone, Copy)]
 enum Tested {
     Good(u64),
     Bad,

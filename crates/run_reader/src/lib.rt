@@ -1,4 +1,6 @@
 // The values of a section of edition 3 (document 02, [11]), all of them into a lent buffer.
+#![tactic(auto)]
+
 ghost use Rattle.std.specs.Prelude.{◌≡◌, true, List, ◌++◌, ◌+◌, ◌-◌, ◌≤◌, ◌<◌, ℤ, length, drop};
 ghost use Rattle.std.proofs.Math.Option.{some};
 ghost use Rattle.std.proofs.lemmas.List.Edits.{sets};

@@ -1,8 +1,6 @@
 -- What is left of a search, in a run and among runs. Assumes nothing.
 use Rattle.format.specs.Kit.{◌≡◌, refl, sym, ap, ◌∙◌, true, false, List, [], ◌∷◌, Option, none, some, inl, inr, ℕ, suc, ◌+◌, ◌-◌, ◌*◌, ◌/◌, ◌%◌, ◌<◌, ◌≤◌, min}
 use Rattle.format.specs.Kit.{add-one, add-zero, sub-zero, cond, arith, ℤ, drop}
-use types.Run.{OneOf}
-use denote.Enum.Declared.{tag_of}
 use Rattle.format.specs.Refusals.{Outcome, done, refused, and_then, given, BROKEN}
 use Rattle.format.specs.Codec.{Fields}
 use Rattle.format.specs.ValueRuns.{run_length, run_count, directory_length, Summary, summary_at, in_run}
@@ -11,7 +9,6 @@ use Rattle.format.specs.FirstBetween.{between, skipped, scan_from, runs_from}
 use Rattle.format.specs.BetweenFrom.{from_value}
 use Rattle.laws.proofs.Editions.{runs_value}
 use Rattle.run_search.specs.declared.Found as Fo
-use Rattle.run_search.specs.contracts.Found as Found
 use Rattle.run_search.specs.Sought.{found_or}
 
 -- ---- values in turn
@@ -45,10 +42,9 @@ RunSays f x a b n r k q = (more : Outcome (Option ℕ)) → found_or q more
     ≡ cond (skipped a b (x r)) more (scan_from f a b (min run_length (n - run_length * r) - k) (run_length * r + k) more)
 
 -- an answer or a failed step is no matter of what comes later
-found_first : (q : Fo.Found) (more other : Outcome (Option ℕ)) → OneOf (0 ∷ 2 ∷ []) (tag_of Found.the_type q) → found_or q more ≡ found_or q other
+found_first : (q : Fo.Found) (more other : Outcome (Option ℕ)) → (q ≡ Fo.Found.Nothing → ⊥) → found_or q more ≡ found_or q other
 found_first (Fo.Found.At i) more other o = refl
-found_first Fo.Found.Nothing more other (inl z) = absurd (omega arith)
-found_first Fo.Found.Nothing more other (inr z) = absurd (omega arith)
+found_first Fo.Found.Nothing more other o = absurd (o refl)
 found_first Fo.Found.Broken more other o = refl
 
 module _ (f : ℕ → Option ℤ) (x : ℕ → Summary) (a b : ℤ) (n r : ℕ) where
@@ -66,7 +62,7 @@ module _ (f : ℕ → Option ℤ) (x : ℕ → Summary) (a b : ℤ) (n r : ℕ) 
     pub run_none : q ≡ Fo.Found.Nothing → runs_from f x a b n (c - r) r ≡ later
     run_none e = sym run_left ∙ ap (λ (y : Fo.Found). found_or y later) e
 
-    pub run_found : OneOf (0 ∷ 2 ∷ []) (tag_of Found.the_type q) → found_or q (done none) ≡ runs_from f x a b n (c - r) r
+    pub run_found : (q ≡ Fo.Found.Nothing → ⊥) → found_or q (done none) ≡ runs_from f x a b n (c - r) r
     run_found o = found_first q (done none) later o ∙ run_left
 
   -- the first one, from value k on
@@ -77,7 +73,7 @@ module _ (f : ℕ → Option ℤ) (x : ℕ → Summary) (a b : ℤ) (n r : ℕ) 
         let next : Outcome (Option ℕ) = runs_from f x a b n (run_count n - suc r) (suc r) in
         rw (add-one r) (sym (ap (λ (y : Fo.Found). found_or y next) e) ∙ says next)
 
-    pub part_found : OneOf (0 ∷ 2 ∷ []) (tag_of Found.the_type q) → found_or q (done none) ≡ from_value f x a b n r k
+    pub part_found : (q ≡ Fo.Found.Nothing → ⊥) → found_or q (done none) ≡ from_value f x a b n r k
     unfolding from_value
     part_found o = found_first q (done none) _ o ∙ says _
 

@@ -1,4 +1,6 @@
 // The first value in a range, in a section of edition 3 (document 02, [11]). Both ends of a range are biased.
+#![tactic(auto)]
+
 ghost use Rattle.std.specs.Prelude.{◌≡◌, true, cond, ℕ, ◌+◌, ◌-◌, ◌*◌, ◌/◌, ◌%◌, ◌≤◌, ◌<◌, min, length};
 ghost use Rattle.std.proofs.Math.Option.{Option, none};
 ghost use Rattle.format.specs.Refusals.{Outcome, done};
@@ -16,7 +18,7 @@ use packings::Order;
 use run_values::{RUN, Summary};
 
 // An ordinal, none, or that step 7 failed on the way.
-#[derive(Drop)]
+#[derive(Clone, Copy)]
 pub enum Found {
     At(u64),
     Nothing,

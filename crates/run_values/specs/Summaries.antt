@@ -1,5 +1,6 @@
 -- A run's summary in the code, whose smallest and greatest value are biased, and where a number stands. Assumes nothing.
-use Rattle.format.specs.Kit.{◌≡◌, List, ℕ, ◌+◌, ◌-◌, ◌*◌, Bool, ◌&&◌, ◌||◌, Option, leb, eqb, ℤ}
+use Rattle.std.specs.Prelude.{◌≡◌, ◌+◌, ◌-◌, ◌*◌, ◌&&◌, ◌||◌}
+use Rattle.format.specs.Kit.{List, ℕ, Bool, Option, leb, eqb, ℤ}
 use Rattle.format.specs.Limits.{max_width}
 use Rattle.format.specs.ValueRuns as Va
 use Rattle.signed.specs.Sign.{unbiased}

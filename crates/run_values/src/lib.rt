@@ -1,5 +1,7 @@
 // The values of edition 3 (document 02, [11]): runs of 16384 values, each with a summary in the directory that opens the section. Here they
 // are read; `run_writer` writes them.
+#![tactic(auto)]
+
 ghost use Rattle.std.specs.Prelude.{◌≡◌, cond, ℕ, ◌+◌, ◌-◌, ◌*◌, ◌/◌, ◌%◌, ◌^◌, ◌≤◌, ◌<◌, min, eqb, length, drop};
 ghost use Rattle.format.specs.Limits.{max_count};
 ghost use Rattle.format.specs.ValueRuns.{run_length, run_count, directory_length, summary_at, in_run};
@@ -14,7 +16,7 @@ use scaled_values::{Slot, Slotted};
 pub const RUN: u64 = 16384;
 
 // What the directory says of a run; smallest and greatest value are biased, and the start is a byte after the directory.
-#[derive(Drop)]
+#[derive(Clone, Copy)]
 pub struct Summary {
     pub smallest: u64,
     pub greatest: u64,

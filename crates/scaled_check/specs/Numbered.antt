@@ -1,5 +1,6 @@
 -- What the functions that go over the stored numbers hand each other. Assumes nothing.
-use Rattle.format.specs.Kit.{◌≡◌, Bool, true, List, ℕ, ◌-◌, ◌^◌, ◌≤◌, ◌<◌, length, drop}
+use Rattle.std.specs.Prelude.{◌≡◌, ◌-◌, ◌^◌, ◌≤◌, ◌<◌}
+use Rattle.format.specs.Kit.{Bool, true, List, ℕ, length, drop}
 use Rattle.format.specs.Limits.{max_count}
 use Rattle.format.specs.Values.{fits64}
 use Rattle.format.specs.Codec.{Fields, scaled}

@@ -1,7 +1,8 @@
 -- The tests of a value section of one smallest value, divisor and width, by a packing (document 01, "Value section"; document 02, [2]),
 -- given n and the header's fields, which keep the header rules.
 -- Assumes nothing.
-use Rattle.format.specs.Kit.{ℕ, ◌-◌, ◌*◌, ◌^◌, min, max, Bool, cond, ◌&&◌, ◌||◌, List, [], ◌∷◌, length, leb, eqb}
+use Rattle.std.specs.Prelude.{◌-◌, ◌*◌, ◌^◌, ◌&&◌, ◌||◌, ◌∷◌}
+use Rattle.format.specs.Kit.{ℕ, min, max, Bool, cond, List, [], length, leb, eqb}
 use Rattle.format.specs.Values.{fits64, gcd}
 use Rattle.format.specs.Codec.{Fields}
 use Rattle.packings.specs.declared.Order.{Order}

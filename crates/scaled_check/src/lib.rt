@@ -1,5 +1,7 @@
 // The check of a value section of one smallest value, divisor and width (document 01, "Value section"; document 02, [2]), by one of the
 // packings, that keeps the header rules.
+#![tactic(auto)]
+
 ghost use Rattle.std.specs.Prelude.{◌≡◌, true, ◌&&◌, ◌+◌, ◌-◌, ◌^◌, ◌≤◌, ◌<◌, eqb, leb, length};
 ghost use Rattle.format.specs.Values.{fits64};
 ghost use Rattle.format.specs.Limits.{max_count};

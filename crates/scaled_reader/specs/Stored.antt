@@ -1,5 +1,6 @@
 -- The values of stored numbers, four at once and all that a buffer has so far. Assumes nothing.
-use Rattle.format.specs.Kit.{◌≡◌, true, List, [], ◌∷◌, ℕ, ◌+◌, ◌*◌, ◌^◌, ◌≤◌, ◌<◌, ℤ, length, drop}
+use Rattle.std.specs.Prelude.{◌≡◌, ◌∷◌, ◌+◌, ◌*◌, ◌^◌, ◌≤◌, ◌<◌}
+use Rattle.format.specs.Kit.{true, List, [], ℕ, ℤ, length, drop}
 use Rattle.format.specs.HeaderNumbers.{unzigzag}
 use Rattle.format.specs.Pairs.{Each, Fits}
 use Rattle.format.specs.Codec.{Fields, scaled}

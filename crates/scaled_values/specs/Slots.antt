@@ -1,5 +1,6 @@
 -- Where a stored number stands in a section, its number and its value: step 7 of every edition. Assumes nothing.
-use Rattle.format.specs.Kit.{◌≡◌, true, List, Option, none, ℕ, ◌+◌, ◌*◌, ◌≤◌, length, drop, ℤ}
+use Rattle.std.specs.Prelude.{◌≡◌, ◌+◌, ◌*◌, ◌≤◌}
+use Rattle.format.specs.Kit.{true, List, Option, none, ℕ, length, drop, ℤ}
 use Rattle.format.specs.Limits.{max_count}
 use Rattle.format.specs.HeaderNumbers.{unzigzag}
 use Rattle.format.specs.Values.{value_at}

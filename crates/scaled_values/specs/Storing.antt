@@ -1,5 +1,6 @@
 -- What the writing of stored numbers is handed. Assumes nothing.
-use Rattle.format.specs.Kit.{◌≡◌, List, ℕ, ◌/◌, ◌≤◌, length, ℤ}
+use Rattle.std.specs.Prelude.{◌≡◌, ◌/◌, ◌≤◌}
+use Rattle.format.specs.Kit.{List, ℕ, length, ℤ}
 use Rattle.format.specs.Bits.{packed_bytes}
 use Rattle.format.specs.Values.{smallest, spread}
 use Rattle.format.specs.Pairs.{Each, Fits}

@@ -1,5 +1,7 @@
 // One smallest value, one divisor and one width for all values (document 01, "Value section"), by one of the packings: the codec of editions
 // 1 and 2.
+#![tactic(auto)]
+
 ghost use Rattle.std.specs.Prelude.{◌≡◌, ◌++◌, ℕ, ◌*◌, ◌≤◌, length, drop};
 ghost use Rattle.format.specs.Limits.{max_count, max_width};
 ghost use Rattle.format.specs.Bits.{packed_bytes};

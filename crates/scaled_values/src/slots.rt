@@ -8,7 +8,7 @@ use answers::Fetched;
 use packings::Order;
 
 // Number `index` of `width` bits, from a byte of the section on; its value stands above `low`, which is biased.
-#[derive(Drop)]
+#[derive(Clone, Copy)]
 pub struct Slot {
     pub start: usize,
     pub width: usize,
@@ -17,7 +17,7 @@ pub struct Slot {
 }
 
 // Where a number stands, or that it reaches past the section.
-#[derive(Drop)]
+#[derive(Clone, Copy)]
 pub enum Slotted {
     At(Slot),
     Outside,

@@ -67,7 +67,7 @@ module _ (m : ℤ) (g : ℕ) (p : 0 < g) (x : ℕ) (xs : List ℕ) where
 
   pub stored_is : smallest vs ≡ m → stored_with g vs ≡ x ∷ xs
   unfolding stored_with
-  stored_is e = rw e (go (x ∷ xs))
+  stored_is e = ap {B = List ℕ} (λ (n : ℤ). map (λ v. over n v / g) vs) e ∙ go (x ∷ xs)
     where
       go : (l : List ℕ) → map (λ v. over m v / g) (map (value_at m g) l) ≡ l
       go [] = refl

@@ -1,5 +1,6 @@
 -- The least and the greatest of some numbers. Assumes nothing.
-use Rattle.format.specs.Kit.{List, [], ◌∷◌, ℕ, min, max}
+use Rattle.std.specs.Prelude.{◌∷◌}
+use Rattle.format.specs.Kit.{List, [], ℕ, min, max}
 
 -- of a and each number
 unfoldable pub least_from : ℕ → List ℕ → ℕ

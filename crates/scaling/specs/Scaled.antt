@@ -1,5 +1,6 @@
 -- What `Ends` and `Scale` say of the values. Assumes nothing.
-use Rattle.format.specs.Kit.{◌≡◌, List, map, ℕ, ◌/◌, ◌≤◌, ℤ, length, drop}
+use Rattle.std.specs.Prelude.{◌≡◌, ◌/◌, ◌≤◌}
+use Rattle.format.specs.Kit.{List, map, ℕ, ℤ, length, drop}
 use Rattle.format.specs.HeaderNumbers.{zigzag}
 use Rattle.format.specs.Values.{least_of, most_of, smallest, greatest, over, spread, gcd_from, divisor}
 use Rattle.format.specs.Pairs.{Each, Fits}

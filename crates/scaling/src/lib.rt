@@ -1,6 +1,8 @@
 // One smallest value and one divisor for all values (document 01, "Value section"; document 02, [2]): what they are, the number stored
 // of a value, and the value of a stored number. How stored numbers are packed is left open. Values are worked on in their biased form,
 // so that no sum or difference has a sign.
+#![tactic(auto)]
+
 ghost use Rattle.std.specs.Prelude.{◌≡◌, ◌+◌, ◌-◌, ◌*◌, ◌/◌, ◌%◌, ◌^◌, ◌<◌, ◌≤◌, min, max, true, length, nat_le};
 ghost use Rattle.format.specs.HeaderNumbers.{unzigzag};
 ghost use Rattle.format.specs.Values.{smallest, spread, gcd, gcd_from, differences, divisor, value_at};
@@ -26,14 +28,14 @@ const AT_ONCE: usize = 128;
 const ONE_BY_ONE: usize = 1024;
 
 // The smallest and the greatest value, biased.
-#[derive(Drop)]
+#[derive(Clone, Copy)]
 pub struct Ends {
     pub low: u64,
     pub high: u64,
 }
 
 // The smallest value as its header number, the divisor, and the greatest stored number.
-#[derive(Drop)]
+#[derive(Clone, Copy)]
 pub struct Scale {
     pub smallest: u64,
     pub divisor: u64,
@@ -41,7 +43,7 @@ pub struct Scale {
 }
 
 // The least and the greatest of some numbers, and their greatest common divisor with one before.
-#[derive(Drop)]
+#[derive(Clone, Copy)]
 pub struct Range {
     pub lo: u64,
     pub hi: u64,

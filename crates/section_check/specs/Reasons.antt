@@ -1,5 +1,6 @@
 -- The tests of a block and of the end block as reasons, 0 for none, and what the code's enums stand for. Assumes nothing.
-use Rattle.format.specs.Kit.{◌≡◌, ℕ, ◌+◌, ◌*◌, ◌≤◌, ◌<◌, cond, ◌&&◌, List, ◌++◌, length, take, drop, replicate, leb, ltb}
+use Rattle.std.specs.Prelude.{◌≡◌, ◌+◌, ◌*◌, ◌≤◌, ◌<◌, ◌&&◌, ◌++◌}
+use Rattle.format.specs.Kit.{ℕ, cond, List, length, take, drop, replicate, leb, ltb}
 use Rattle.format.specs.Refusals.{Outcome, done, refused}
 use Rattle.format.specs.Bytes.{same}
 use Rattle.format.specs.Ids.{Entry, block_bytes}

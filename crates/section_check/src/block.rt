@@ -37,7 +37,7 @@ pub fn ascending(s: &[u8], order: ByteOrder, t: usize, c: usize) -> bool
 }
 
 // What one pass over a dense block's longs finds: their ones, and whether each rank entry is the ones before its stride.
-#[derive(Drop)]
+#[derive(Clone, Copy)]
 struct Words {
     ones: u64,
     right: bool,

@@ -1,5 +1,7 @@
 // The judge of an id section in either byte order (document 02, [9]): its blocks, its end block, its jump entries. The check of a column
 // asks it with the low byte first.
+#![tactic(auto)]
+
 ghost use Rattle.std.specs.Prelude.{◌≡◌, suc, ◌+◌, ◌*◌, ◌≤◌, ◌<◌, length, take, drop};
 ghost use Rattle.format.specs.Refusals.{done};
 ghost use Rattle.format.specs.Bytes.{same};
@@ -21,21 +23,21 @@ pub use block::ascending;
 
 // Where the walk over the blocks stands: a block's start, the ids before it and the least number that it may have; or a reason and a
 // place.
-#[derive(Drop)]
+#[derive(Clone, Copy)]
 enum Walk {
     At(usize, u64, u64),
     Fault(u64, usize),
 }
 
 // The place after the jump entries, or that of the first wrong one.
-#[derive(Drop)]
+#[derive(Clone, Copy)]
 enum EntriesEnd {
     At(usize),
     Wrong(usize),
 }
 
 // The number of ids; or a reason and a place.
-#[derive(Drop)]
+#[derive(Clone, Copy)]
 pub enum Verdict {
     Accepted(u64),
     Faulty(u64, usize),

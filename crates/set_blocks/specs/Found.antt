@@ -1,5 +1,6 @@
 -- The code's answers on one block as the definitions' ones. Assumes nothing.
-use Rattle.format.specs.Kit.{◌≡◌, List, ℕ, length, drop}
+use Rattle.std.specs.Prelude.{◌≡◌}
+use Rattle.format.specs.Kit.{List, ℕ, length, drop}
 use Rattle.format.specs.Refusals.{Outcome, done}
 use Rattle.answers.specs.Replies.{refused_as}
 use Rattle.format.specs.SetCalls.{SetHead, set_places}

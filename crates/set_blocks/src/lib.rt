@@ -1,5 +1,7 @@
 // One block of a set on disk (document 02, [14]): its numbers, each held to its limits at once, its data, and its count; or the first
 // fault of its bytes.
+#![tactic(auto)]
+
 ghost use Rattle.std.specs.Prelude.{◌≡◌, true, cond, ◌&&◌, ◌≤◌, leb, length, drop};
 ghost use Rattle.format.specs.Limits.{max_block, max_listed, max_kind, bitmap_bytes};
 ghost use Rattle.format.specs.HeaderNumbers.{number_at};
@@ -12,14 +14,14 @@ use blocks::Block;
 use header_numbers::Number;
 
 // A number and the place after it, or why there is none.
-#[derive(Drop)]
+#[derive(Clone, Copy)]
 pub enum Numbered {
     Is { value: u64, next: usize },
     Refused(Refusal),
 }
 
 // A block's number, its kind, the length of its list, where its data start, and how many ids it has.
-#[derive(Drop)]
+#[derive(Clone, Copy)]
 pub struct SetBlock {
     pub block: u64,
     pub kind: u64,
@@ -42,7 +44,7 @@ impl SetBlock {
 }
 
 // A block that keeps the rules, or the refusal that its first fault gets.
-#[derive(Drop)]
+#[derive(Clone, Copy)]
 pub enum Found {
     Block(SetBlock),
     Refused(Refusal),

@@ -1,5 +1,6 @@
 -- What the pass over the blocks tallies. Assumes nothing.
-use Rattle.format.specs.Kit.{◌≡◌, true, false, ◌||◌, List, map, ℕ, ◌+◌, ◌*◌, ◌≤◌, length}
+use Rattle.std.specs.Prelude.{◌≡◌, ◌||◌, ◌+◌, ◌*◌, ◌≤◌}
+use Rattle.format.specs.Kit.{true, false, List, map, ℕ, length}
 use Rattle.format.specs.Limits.{block_places, max_block, max_kind}
 use Rattle.format.specs.Refusals.{Outcome, done, refused, and_then, DAMAGED}
 use Rattle.answers.specs.Replies.{refused_as}

@@ -1,5 +1,7 @@
 // The check of a set on disk, and membership in it (document 02, [14]): one pass over the blocks tallies the ids, those below the id asked
 // for, and whether it is there. Its time goes by the bytes: the ids of a bitmap, or those that are not missing, are not gone through.
+#![tactic(auto)]
+
 ghost use Rattle.std.specs.Prelude.{◌≡◌, cond, not, ◌||◌, ◌+◌, ◌*◌, ◌/◌, ◌%◌, ◌^◌, ◌≤◌, ◌<◌, ltb, eqb, length, drop};
 ghost use Rattle.std.specs.Int.Count.{ones_in};
 ghost use Rattle.format.specs.Limits.{max_count, block_places, bitmap_bytes, max_blocks};
@@ -15,7 +17,7 @@ use answers::{Member, Refusal, Reply};
 use set_blocks::{Found, Numbered, SetBlock};
 
 // How many of a block's places are below the one asked for, and whether it is there.
-#[derive(Drop)]
+#[derive(Clone, Copy)]
 struct Place {
     below: u64,
     there: bool,
@@ -106,14 +108,14 @@ fn place_in(s: &[u8], block: SetBlock, r: usize) -> Place
 // ---- the pass over the blocks
 
 // The ids so far, those of them below the id asked for, and whether it is among them.
-#[derive(Drop)]
+#[derive(Clone, Copy)]
 struct Tally {
     count: u64,
     below: u64,
     there: bool,
 }
 
-#[derive(Drop)]
+#[derive(Clone, Copy)]
 enum Walked {
     End(Tally),
     Refused(Refusal),

@@ -1,5 +1,6 @@
 -- The three numbers of the block that the ids of one block make. Assumes nothing.
-use Rattle.format.specs.Kit.{◌≡◌, List, ◌++◌, ℕ, zero, suc, ◌-◌, ◌≤◌, length}
+use Rattle.std.specs.Prelude.{◌≡◌, ◌++◌, ◌-◌, ◌≤◌}
+use Rattle.format.specs.Kit.{List, ℕ, zero, suc, length}
 use Rattle.format.specs.Limits.{block_places, max_listed, max_kind}
 use Rattle.format.specs.HeaderNumbers.{number}
 use Rattle.format.specs.SetBytes.{set_kind}

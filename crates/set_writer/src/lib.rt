@@ -1,4 +1,6 @@
 // Writing a set on disk (document 02, [14]): refusals 3, 4 and 6, the number of blocks, and the blocks.
+#![tactic(auto)]
+
 ghost use Rattle.std.specs.Prelude.{◌≡◌, ◌+◌, ◌*◌, ◌≤◌, length};
 ghost use Rattle.std.proofs.lemmas.List.Edits.{sets};
 ghost use Rattle.format.specs.Limits.{block_places, max_blocks, max_kind};
@@ -70,7 +72,7 @@ fn put_data(part: &[u32], out: &mut [u8], at: usize, kind: u64)
 // ---- a block
 
 // A block's number, its kind and the length of its list.
-#[derive(Drop)]
+#[derive(Clone, Copy)]
 struct Head {
     block: u64,
     kind: u64,
@@ -157,7 +159,7 @@ fn put_blocks(ids: &[u32], out: &mut [u8], at: usize)
 }
 
 // How many blocks there are, and their bytes.
-#[derive(Drop)]
+#[derive(Clone, Copy)]
 struct Sizes {
     blocks: u64,
     bytes: usize,

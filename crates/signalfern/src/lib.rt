@@ -1,5 +1,7 @@
 // Signalfern: score columns written, checked, read back, looked up and walked. Each call can be handed any input at all; its promise
 // fixes the reply and every lent buffer afterwards by the definitions of crate format (document 01, and document 02 for what it adds).
+#![tactic(auto)]
+
 ghost use Rattle.std.specs.Prelude.{◌≡◌, min, ◌≤◌, length};
 ghost use Rattle.format.specs.Writer.{write, write_planned, write_reply, write_out};
 ghost use Rattle.format.specs.Plan.{plan};

@@ -5,6 +5,8 @@
 // stands apart (`lookup::apart`; docs/DECISIONS.md, "Speed"). The calls on two columns stand in layers.rt, that on a page of ids in pages.rt,
 // those on pairs from an id on and by ordinal in pairs.rt, those on plans in planning.rt, those on a range of values in ranges.rt, those on
 // sets in sets.rt, the judge of a bare id section in sections.rt.
+#![tactic(auto)]
+
 ghost use Rattle.std.specs.Prelude.{◌≡◌, length};
 ghost use Rattle.format.specs.Writer.{write, write_reply, write_out};
 ghost use Rattle.format.specs.Check.{check, reading, read_reply, ids_after, values_after};

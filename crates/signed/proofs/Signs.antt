@@ -68,7 +68,7 @@ biased_over (negsuc a) (negsuc b) f g h = let k : suc b ≤ suc a = omega arith 
 
 -- a signed number of 64 bits is what the machine reads back from its bits: a callee's promise on a signed argument speaks of the left side
 pub read_back : (z : ℤ) → mag z < 2 ^ 63 → to_z w64 (of_z w64 z) ≡ z
-read_back z h = to_z-of_z (record { sfits = h })
+read_back z h = to_z-of_z {w = w64} (record { sfits = h })
 
 -- a number added to a signed one is added to its biased form: it stays a number of 64 bits exactly where the form stays below 2^64
 pub biased-+ : (z : ℤ) (p : ℕ) → mag z < 2 ^ 63 → biased z + p < 2 ^ 64 → (mag (z +ℤ pos p) < 2 ^ 63) × (biased (z +ℤ pos p) ≡ biased z + p)

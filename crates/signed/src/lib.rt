@@ -1,4 +1,6 @@
 // Signed numbers as numbers without sign. `biased` and `unbiased` alone compute with signed numbers.
+#![tactic(auto)]
+
 ghost use Rattle.std.specs.Prelude.{◌≡◌};
 ghost use Rattle.format.specs.Bytes.{twos, untwos};
 ghost use Rattle.format.specs.HeaderNumbers.{zigzag, unzigzag};

@@ -1,6 +1,7 @@
 -- The tests of a value section of edition 4 (document 02, [12]), given n and the header's fields, which keep the header rules: the small check,
 -- made from the table and the codes. Assumes nothing.
-use Rattle.format.specs.Kit.{ℕ, zero, suc, ◌-◌, ◌*◌, Bool, true, false, ◌&&◌, ◌||◌, List, [], ◌∷◌, length, drop, ltb, eqb, ℤ}
+use Rattle.std.specs.Prelude.{◌-◌, ◌*◌, ◌&&◌, ◌||◌, ◌∷◌}
+use Rattle.format.specs.Kit.{ℕ, zero, suc, Bool, true, false, List, [], length, drop, ltb, eqb, ℤ}
 use Rattle.format.specs.Bytes.{low_at, untwos}
 use Rattle.format.specs.Bits.{unpacked}
 use Rattle.format.specs.Codec.{Fields}

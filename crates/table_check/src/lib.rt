@@ -1,4 +1,6 @@
 // The check of a value section of edition 4 (document 02, [12]) that keeps the header rules.
+#![tactic(auto)]
+
 ghost use Rattle.std.specs.Prelude.{◌≡◌, true, ◌++◌, ◌*◌, ◌≤◌, length, drop};
 ghost use Rattle.format.specs.Limits.{max_count, max_width};
 ghost use Rattle.format.specs.Bits.{unpacked, packed_bytes};

@@ -1,5 +1,6 @@
 -- Where a code stands, and what it stands for. Assumes nothing.
-use Rattle.format.specs.Kit.{ℕ, ◌*◌, cond, List, Option, none, ltb, ℤ}
+use Rattle.std.specs.Prelude.{◌*◌}
+use Rattle.format.specs.Kit.{ℕ, cond, List, Option, none, ltb, ℤ}
 use Rattle.format.specs.Bytes.{low_at, untwos}
 use Rattle.format.specs.Codec.{signed64}
 use Rattle.scaled_values.specs.declared.slots.Slotted as Sl

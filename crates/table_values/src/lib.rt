@@ -1,5 +1,7 @@
 // The values of edition 4 (document 02, [12]): a table of the distinct values, ascending, and a code for each value, its place in the table.
 // Here they are read; `table_writer` writes them.
+#![tactic(auto)]
+
 ghost use Rattle.std.specs.Prelude.{◌≡◌, true, List, ◌++◌, ℕ, ◌+◌, ◌-◌, ◌*◌, ◌≤◌, ℤ, length, drop};
 ghost use Rattle.std.proofs.Math.Option.{some};
 ghost use Rattle.std.proofs.lemmas.List.Edits.{sets};

@@ -1,5 +1,6 @@
 -- A value at a place of a table, and a table that holds values, where it has room for them. Assumes nothing.
-use Rattle.format.specs.Kit.{◌≡◌, ℕ, suc, ◌<◌, ◌≤◌, List, length, get_or, take, ℤ, pos}
+use Rattle.std.specs.Prelude.{◌≡◌, ◌<◌, ◌≤◌}
+use Rattle.format.specs.Kit.{ℕ, suc, List, length, get_or, take, ℤ, pos}
 
 abbrev pub Stands : List ℤ → ℕ → ℤ → Type 0
 Stands us k v = (k < length us) × (get_or us k (pos 0) ≡ v)

@@ -1,5 +1,6 @@
 -- Marks at the places of a table: which entries have a value. Assumes nothing.
-use Rattle.format.specs.Kit.{◌≡◌, ℕ, ◌<◌, List, [], ◌∷◌, set, get_or}
+use Rattle.std.specs.Prelude.{◌≡◌, ◌<◌, ◌∷◌}
+use Rattle.format.specs.Kit.{ℕ, List, [], set, get_or}
 
 -- a mark at each of these places
 unfoldable pub marked : List ℕ → List ℕ → List ℕ

@@ -1,4 +1,6 @@
 // The tables of edition 4 (document 02, [12]): a value's place in one, whether one ascends, and the distinct values made one.
+#![tactic(auto)]
+
 ghost use Rattle.std.specs.Prelude.{◌≡◌, true, false, cond, ◌∷◌, ◌++◌, ◌+◌, ◌≤◌, ◌<◌, length, take, drop};
 ghost use Rattle.format.specs.Table.{insert, table_of, code_in, ascends};
 ghost use Rattle.signed.specs.Sign.{unbiased};

@@ -1,5 +1,6 @@
 -- The code's edition, fields and value as the definitions' own; the tests of an edition's value section. Assumes nothing.
-use Rattle.format.specs.Kit.{◌≡◌, ℕ, ◌*◌, ◌≤◌, ◌<◌, Bool, true, List, Option, ℤ, length}
+use Rattle.std.specs.Prelude.{◌≡◌, ◌*◌, ◌≤◌, ◌<◌}
+use Rattle.format.specs.Kit.{ℕ, Bool, true, List, Option, ℤ, length}
 use Rattle.format.specs.Pairs.{Each, Fits}
 use Rattle.format.specs.Codec.{Fields}
 use Rattle.format.specs.Table.{table_of}

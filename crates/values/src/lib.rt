@@ -1,4 +1,6 @@
 // Values by edition: this crate alone knows what an edition does with values. Each function hands on to the edition's own crates.
+#![tactic(auto)]
+
 ghost use Rattle.std.specs.Prelude.{◌≡◌, true, false, cond, List, ◌++◌, ◌+◌, ◌-◌, ◌*◌, ◌≤◌, ◌<◌, ℤ, eqb, length, drop};
 ghost use Rattle.std.proofs.Math.Option.{some};
 ghost use Rattle.std.proofs.lemmas.List.Edits.{sets};
@@ -15,7 +17,7 @@ use packings::Order;
 use scaled_values::Slotted;
 
 // The editions of a column.
-#[derive(Drop)]
+#[derive(Clone, Copy)]
 pub enum Edition {
     // Document 01's, edition 1.
     Plain,
@@ -28,7 +30,7 @@ pub enum Edition {
 }
 
 // How an edition's values are laid out: with one smallest value, divisor and width, by a packing; in runs; or by a table.
-#[derive(Drop)]
+#[derive(Clone, Copy)]
 enum Layout {
     Whole(Order),
     Runs,

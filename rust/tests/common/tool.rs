@@ -83,8 +83,24 @@ pub fn run(words: &[&str]) -> Ran {
     run_with(words, b"")
 }
 
-/// A new folder for one test.
+/// The names in a folder, sorted.
+pub fn names_in(folder: impl AsRef<Path>) -> Vec<String> {
+    let entries = fs::read_dir(folder).unwrap();
+    let mut names: Vec<String> = entries
+        .map(|entry| entry.unwrap().file_name().into_string().unwrap())
+        .collect();
+    names.sort();
+    names
+}
+
+/// A new folder for one test, which goes with it: `rt ci` takes no checkout in which a link is left.
 pub struct Folder(pub PathBuf);
+
+impl Drop for Folder {
+    fn drop(&mut self) {
+        let _ = fs::remove_dir_all(&self.0);
+    }
+}
 
 impl Folder {
     pub fn new(name: &str) -> Self {
@@ -116,12 +132,7 @@ impl Folder {
     }
 
     pub fn names(&self) -> Vec<String> {
-        let entries = fs::read_dir(&self.0).unwrap();
-        let mut names: Vec<String> = entries
-            .map(|entry| entry.unwrap().file_name().into_string().unwrap())
-            .collect();
-        names.sort();
-        names
+        names_in(&self.0)
     }
 
     /// Runs a script in the folder, as somebody would type it; `signalfern` is the tool.

@@ -18,7 +18,7 @@ const README: &str = include_str!("../../../README.md");
 const OF_THE_KIT: [&str; 3] = ["START-HERE.md", "FIRST_PROOFS.md", "SHORTER_PROOFS.md"];
 
 /// What stands for any name in a path.
-const ANY: [&str; 2] = ["NAME", "+f"];
+const ANY: [&str; 2] = ["NAME", "F"];
 
 /// What a name without a stroke ends in, if it is a file's.
 const ENDINGS: [&str; 10] = [
@@ -53,8 +53,9 @@ fn files_in(folder: &str, ending: &str) -> BTreeSet<String> {
 fn crates() -> BTreeSet<String> {
     let lines = text_of("crates.txt");
     let lines = lines.lines().filter(|line| !line.starts_with('#'));
-    let named = lines.filter_map(|line| line.split_once(':'));
-    named.map(|(name, _)| name.to_string()).collect()
+    // (`NAME:`, or `NAME staticlib:`)
+    let named = lines.filter_map(|line| line.split_once(':')?.0.split(' ').next());
+    named.map(str::to_string).collect()
 }
 
 /// The names of all files and folders of the tree, but for what is built. (What vanishes meanwhile is passed over.)
@@ -64,7 +65,7 @@ fn all_names() -> BTreeSet<String> {
         for entry in fs::read_dir(folder).into_iter().flatten().flatten() {
             let name = entry.file_name().to_string_lossy().into_owned();
             let is_folder = entry.file_type().is_ok_and(|kind| kind.is_dir());
-            if is_folder && ![".git", "target", "__pycache__"].contains(&&name[..]) {
+            if is_folder && ![".git", "target", "out", "__pycache__"].contains(&&name[..]) {
                 folders.push(entry.path());
             }
             found.insert(name);
@@ -144,7 +145,7 @@ fn is_there(path: &str) -> bool {
         || leads(&crates, &parts)
         || leads(&crates, &anywhere)
         || edit("must-fail")
-        || edit("must-fail/more")
+        || edit("must-fail-more")
 }
 
 /// The paths of a page that lead nowhere: in backquotes, in links, and pages of `docs/` in the text. The number is how
@@ -209,7 +210,7 @@ fn a_wrong_path_is_found() {
             Some("no format/specs/Kitt.antt"),
         ),
         ("`rust/tests/libary/`", Some("no rust/tests/libary/")),
-        ("`crates/NAME/must-fail/`, `proofs/+f/Proof.antt`", None),
+        ("`crates/NAME/must-fail/`, `proofs/F/Invariants.antt`", None),
         ("`crates/NAME/may-fail/`", Some("no crates/NAME/may-fail/")),
         ("`writer/refuses_all`, `format/plan_after_room`", None),
         ("`writer/refuses_none`", Some("no writer/refuses_none")),
@@ -375,8 +376,8 @@ fn a_wrong_name_is_found() {
 
     let page = slip(
         DEMANDS,
-        "| `set_find` | `memberOf",
-        "| `set_seek` | `memberOf",
+        "| `set_find` | `member_of",
+        "| `set_seek` | `member_of",
     );
     let wrong = [
         "| call | the reply |: no set_seek",
@@ -492,7 +493,7 @@ fn wrong_counts(architecture: &str, demands: &str, proving: &str, readme: &str) 
     compare(demands, "Each of the", " calls has", calls);
     compare(demands, "For each of the", " calls `.ci/weaker`", weaker);
     compare(demands, "The gate tries", " edits", edits(""));
-    compare(demands, "the", " in `must-fail/more/`", edits("/more"));
+    compare(demands, "the", " in `must-fail-more/`", edits("-more"));
     compare(demands, "in", " files of `format/specs`", specs.len());
     let all = lines("crates/format/specs", specs.into_iter());
     compare(demands, "some", " lines in", all);
@@ -552,7 +553,7 @@ fn a_wrong_count_is_found() {
         format!("55 crates: {real}"),
     ];
     assert_eq!(wrong, twice);
-    let (calls, gate, more) = (calls().len(), edits(""), edits("/more"));
+    let (calls, gate, more) = (calls().len(), edits(""), edits("-more"));
     let files = files_in("crates/format/specs", ".antt").len();
     for (words, others) in [
         (format!("None of the {calls} "), "None of the 27 "),

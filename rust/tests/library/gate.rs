@@ -6,14 +6,19 @@ use std::process::Command;
 
 use crate::common::tool::{script, Folder, Ran};
 
-/// `rt ci` where all is proved.
-const PROVED: &str = "case $1 in
-ci) mkdir -p target/stamp; touch target/stamp/signalfern; sleep 0.1
-    touch target/stamp/boundary target/stamp/demands; echo 'rt: ok'; echo '148 passed, 0 failed' ;;
-esac";
+/// `rt ci` where all is proved: plain, at the top of the checkout as it stands.
+const PROVED: &str = "[ \"$*\" = ci ] && [ -f crates.txt ] && [ -f target/there ] || exit 1
+sleep 0.1; echo 'rt: ok; handles allowed: none; must-fail edits: 94 refused; every proof ..'; echo '148 passed, 0 failed'";
 
 /// One crate is not proved: the library, say.
 const NOT_PROVED: &str = "echo 'rt: FAILED: signalfern'; echo '140 passed, 1 failed'; exit 1";
+
+/// All is proved, and two edits show nothing.
+const BAD_EDITS: &str = "echo 'rt: ok; handles allowed: none; must-fail edits: 92 refused, 1 of them only by a limit, 2 bad; every proof ..'
+echo '146 passed, 0 failed'";
+
+/// It ends well without its verdict.
+const NO_VERDICT: &str = "echo '148 passed, 0 failed'";
 
 const TESTS_PASS: &str = "echo 'test result: ok. 5 passed; 0 failed; 0 ignored; 0 measured'
 echo 'test result: ok. 2 passed; 0 failed; 1 ignored; 0 measured'";
@@ -21,17 +26,16 @@ echo 'test result: ok. 2 passed; 0 failed; 1 ignored; 0 measured'";
 const ONE_TEST_FAILS: &str = "echo 'test result: FAILED. 4 passed; 1 failed; 0 ignored; 0 measured'
 echo 'test result: ok. 2 passed; 0 failed; 0 ignored; 0 measured'; exit 101";
 
-/// The archive, which is built only where what it is made of is proved.
-const ARCHIVE: &str = "[ -f target/stamp/signalfern ] && [ -f target/stamp/boundary ] || exit 1
-mkdir -p $1/target/staticlib; touch $1/target/staticlib/libsignalfern_c.a
+/// The archive, which is built only where `rt ci` has passed.
+const ARCHIVE: &str = "mkdir -p $1/x86-64; touch $1/x86-64/libsignalfern_c.a
 echo 'dist: 3 passed, 0 failed'; echo '1 passed, 0 failed, 1 skipped'";
 
 /// The gate in a folder of its own, where no other programs are found than these.
 fn gate(rt: &str, cargo: Option<&str>) -> (i32, String) {
     let folder = Folder::new("gate");
     let made = folder.shell(
-        "mkdir bin crates python rust sqlite temporary; touch crates.txt
-         for program in awk bash cat chmod cp df dirname findmnt grep ln mkdir mktemp nproc rm sleep tee touch; do
+        "mkdir bin crates python rust sqlite target temporary; touch crates.txt target/there
+         for program in awk bash cat chmod cp dirname grep ln mkdir mktemp rm sed sleep tee touch; do
              found=$(command -v $program) && ln -s \"$found\" bin
          done; :",
     );
@@ -103,6 +107,18 @@ fn the_last_line_counts_all_and_what_did_not_run() {
             Some(TESTS_PASS),
             1,
             "145 passed, 4 failed, 4 skipped",
+        ),
+        (
+            BAD_EDITS,
+            Some(TESTS_PASS),
+            1,
+            "151 passed, 5 failed, 4 skipped",
+        ),
+        (
+            NO_VERDICT,
+            Some(TESTS_PASS),
+            1,
+            "153 passed, 4 failed, 4 skipped",
         ),
         (killed, Some(TESTS_PASS), 1, "5 passed, 4 failed, 4 skipped"),
     ] {

@@ -140,8 +140,8 @@ fn each_wrong_program_is_there() {
             continue;
         }
         let edit = format!("{edit}.edit");
-        let edits = crates().join(name).join("must-fail");
-        if !edits.join(&edit).is_file() && !edits.join("more").join(&edit).is_file() {
+        let is_in = |folder: &str| crates().join(name).join(folder).join(&edit).is_file();
+        if !is_in("must-fail") && !is_in("must-fail-more") {
             gone.push(word);
         }
         count += 1;

@@ -4,7 +4,7 @@ use std::fs;
 use std::process::Stdio;
 
 use crate::common::parts::{self, Parts};
-use crate::common::tool::{run, run_with, tool, Folder};
+use crate::common::tool::{names_in, run, run_with, tool, Folder};
 use signalfern::Edition;
 
 fn small_column() -> Vec<u8> {
@@ -211,7 +211,7 @@ fn the_demo() {
         "scores.column.sha256",
         "scores.txt",
     ];
-    assert_eq!(Folder(path.clone().into()).names(), left);
+    assert_eq!(names_in(&path), left);
 
     // What is there already stays, whichever of the files it is.
     run(&["demo", &path]).expect(2, &["scores.txt is there already"]);
@@ -225,5 +225,5 @@ fn the_demo() {
     let shown = String::from_utf8(shown.stdout).unwrap();
     let (_, place) = shown.trim_end().rsplit_once("The files are in ").unwrap();
     assert!(place.starts_with(&path), "{place}");
-    assert_eq!(Folder(place.into()).names(), left);
+    assert_eq!(names_in(place), left);
 }

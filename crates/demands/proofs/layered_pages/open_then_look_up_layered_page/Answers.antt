@@ -1,0 +1,40 @@
+-- `demands::layered_pages::open_then_look_up_layered_page` meets its contract. Assumes nothing.
+use Rattle.format.specs.Kit.{sym, ap, ◌∙◌, List, length}
+use Rattle.format.specs.Refusals.{Outcome}
+use Rattle.format.specs.Editions.{editions}
+use Rattle.format.specs.Layered.{LayeredLook}
+use Rattle.format.specs.LayeredPage.{layered_reply, layered_after, layered_ordinal, layered_value, layered_kind, layered_column}
+use Rattle.column.specs.Opened.{opened_of}
+use Rattle.laws.proofs.LayeredPages.{opened_page}
+use Rattle.demands.proofs.Lists.{not_refused}
+use Rattle.demands.proofs.LayeredPages.{layered_page_answers}
+use Rattle.demands.proofs.layered_pages.open_then_look_up_layered_page.Goals as goal
+use Rattle.demands.proofs.layered_pages.open_then_look_up_layered_page.Goals.{After-open-below}
+
+pub returns-in-Refused : goal.returns-in-Refused
+returns-in-Refused c =
+    λ ro rv rk rc i j x y. not_refused c.args.machine.now _ _ c.open-below.ensures
+    c.in-Refused.is i x
+
+pub returns-in-Refused-above : goal.returns-in-Refused-above
+returns-in-Refused-above c =
+    λ ro rv rk rc i j x y. not_refused c.args.correction.now _ _
+    c.open-above.ensures c.in-Refused-above.is j y
+
+pub returns-in-Open-above : goal.returns-in-Open-above
+returns-in-Open-above c =
+    let a = c.args in
+    let m = a.machine.now in
+    let t = a.correction.now in
+    let e = c.look_up_layered_page_in.ensures in
+    let same =
+    opened_page editions m _ t _ (sym c.open-below.ensures ∙ ap opened_of
+    c.in-Open.is)
+    (sym c.open-above.ensures ∙ ap opened_of c.in-Open-above.is) a.ids.now
+    (length a.ordinals.now) (length a.values.now) (length a.kinds.now) (length a.columns.now) in
+    layered_page_answers m t a.ids.now a.ordinals.now _ a.values.now _ a.kinds.now _ a.columns.now _
+    c.look_up_layered_page_in.result (e.replies ∙ ap layered_reply same)
+    (e.ordinals_placed ∙ ap (λ ((goal.at.returns-in-Open-above c).After-open-below : Outcome (List LayeredLook)). layered_after layered_ordinal (goal.at.returns-in-Open-above c).After-open-below a.ordinals.now) same)
+    (e.values_placed ∙ ap (λ ((goal.at.returns-in-Open-above c).After-open-below : Outcome (List LayeredLook)). layered_after layered_value (goal.at.returns-in-Open-above c).After-open-below a.values.now) same)
+    (e.kinds_placed ∙ ap (λ ((goal.at.returns-in-Open-above c).After-open-below : Outcome (List LayeredLook)). layered_after layered_kind (goal.at.returns-in-Open-above c).After-open-below a.kinds.now) same)
+    (e.columns_placed ∙ ap (λ ((goal.at.returns-in-Open-above c).After-open-below : Outcome (List LayeredLook)). layered_after layered_column (goal.at.returns-in-Open-above c).After-open-below a.columns.now) same)

@@ -1,0 +1,73 @@
+-- `layered_page::look_up_layered_page` meets its contract. Assumes nothing.
+use Rattle.format.specs.Kit.{refl, sym, ◌∙◌, ◌≤◌, arith, length}
+use Rattle.format.specs.Editions.{editions}
+use Rattle.format.specs.LookUp.{look_up}
+use Rattle.format.specs.Layered.{look_up_layered}
+use Rattle.format.specs.LayeredPage.{layered_page}
+use Rattle.column.specs.Opened.{opened_of}
+use Rattle.page.specs.Openings.{look_by}
+use Rattle.page.proofs.Openings.{open_fits}
+use Rattle.layered_page.proofs.Calls.{numbered_up, same_up, same_numbered, layered_same, few, has_room, refused_so, is_above, asked_so, settled_so}
+use Rattle.layered_page.proofs.look_up_layered_page.Goals as goal
+use Rattle.layered_page.proofs.look_up_layered_page.Goals.{Else-not-roomy}
+
+pub returns-then-not-roomy : goal.returns-then-not-roomy
+unfolding layered_page
+returns-then-not-roomy c =
+    let a = c.args in
+    refused_so _ _ a.ordinals.now a.values.now a.kinds.now a.columns.now
+    (few (look_up_layered editions a.machine.now a.correction.now) a.ids.now _ _ _ _ (sym c.roomy.ensures ∙ c.if-not-roomy.true))
+
+-- each list has room
+room : (c : Else-not-roomy) → let a = c.args in
+    (length a.ids.now ≤ length a.ordinals.now) × (length a.ids.now ≤ length a.values.now)
+    × (length a.ids.now ≤ length a.kinds.now) × (length a.ids.now ≤ length a.columns.now)
+room c = has_room _ _ _ _ _ (sym c.roomy.ensures ∙ c.if-not-roomy.false)
+
+pub fill_by-counted-requires : goal.fill_by-counted-requires
+fill_by-counted-requires c =
+    let a = c.args in
+    let r = room (goal.at.fill_by-counted-requires c).Else-not-roomy in
+    (open_fits _ c.open-top.result c.open-top.ensures, record { ordinals_long = r.0; values_long = r.1; kinds_long = r.2 })
+
+pub mark-requires : goal.mark-requires
+mark-requires c =
+    let r = room (goal.at.mark-requires c).Else-not-roomy in
+    (omega (arith, r.3), omega (arith, r.2, c.fill_by-counted.auto.kinds))
+
+pub returns-then-not-mark : goal.returns-then-not-mark
+unfolding layered_page
+returns-then-not-mark c =
+    let a = c.args in
+    let r = room (goal.at.returns-then-not-mark c).Else-not-roomy in
+    let s = same_up a.correction.now _ c.open-top.ensures in
+    settled_so (look_by a.correction.now (opened_of c.open-top.result)) a.ids.now c.fill_by-counted.ensures r.0 r.1 r.2
+    (look_up editions a.machine.now) (same_numbered _ _ s (numbered_up a.correction.now)) (numbered_up a.machine.now)
+    (look_up_layered editions a.machine.now a.correction.now)
+    (layered_same a.machine.now a.correction.now _ _ s (λ id. refl)) a.columns.now _ r.3 c.mark.ensures.1
+    (sym c.mark.ensures.0 ∙ c.if-not-mark.true)
+
+pub fill_under-requires : goal.fill_under-requires
+fill_under-requires c =
+    let a = c.args in
+    let r = room (goal.at.fill_under-requires c).Else-not-roomy in (
+      open_fits _ c.open-bottom.result c.open-bottom.ensures,
+      open_fits _ c.open-top.result c.open-top.ensures,
+      same_numbered _ _ (same_up a.correction.now _ c.open-top.ensures) (numbered_up a.correction.now),
+      same_numbered _ _ (same_up a.machine.now _ c.open-bottom.ensures) (numbered_up a.machine.now),
+      is_above (look_by a.correction.now (opened_of c.open-top.result)) a.ids.now c.fill_by-counted.ensures r.0 r.1 r.2,
+      c.fill_by-counted.ensures.words,
+    )
+
+pub returns : goal.returns
+unfolding layered_page
+returns c =
+    let a = c.args in
+    let r = room (goal.at.returns c).Else-not-roomy in
+    let s = same_up a.correction.now _ c.open-top.ensures in
+    let l = same_up a.machine.now _ c.open-bottom.ensures in
+    asked_so (look_by a.correction.now (opened_of c.open-top.result)) a.ids.now c.fill_by-counted.ensures r.0 r.1 r.2
+    (look_by a.machine.now (opened_of c.open-bottom.result)) (same_numbered _ _ s (numbered_up a.correction.now))
+    (same_numbered _ _ l (numbered_up a.machine.now))
+    (look_up_layered editions a.machine.now a.correction.now)
+    (layered_same a.machine.now a.correction.now _ _ s l) a.columns.now _ r.3 c.mark.ensures.1 _ c.fill_under.ensures

@@ -1,0 +1,10 @@
+-- `layered_reading::stopped` meets its contract. Assumes nothing.
+use Rattle.format.specs.Kit.{ℕ, refl, ap}
+use Rattle.layered.specs.declared.LayeredReadout as Lr
+use Rattle.layered_reading.proofs.stopped.Goals as goal
+
+pub returns-then-i-eq0 : goal.returns-then-i-eq0
+returns-then-i-eq0 c = (λ z. refl, λ z. absurd (z c.if-i-eq0.true))
+
+pub returns : goal.returns
+returns c = (λ z. absurd (c.if-i-eq0.false z), λ z. ap (λ (n : ℕ). Lr.LayeredReadout.More n) c.long.ensures)

@@ -1,0 +1,7 @@
+-- `numbers::int_at` meets its contract. Assumes nothing.
+use Rattle.format.specs.Kit.{arith}
+use Rattle.numbers.proofs.Shorts.{int_is}
+use Rattle.numbers.proofs.int_at.Goals as goal
+
+pub returns : goal.returns
+returns c = let a = c.args in (omega (arith, int_is a.s.now a.i (omega arith)), omega arith)

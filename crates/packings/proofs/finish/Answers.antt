@@ -1,0 +1,8 @@
+-- `packings::finish` meets its contract. Assumes nothing.
+use Rattle.packings.proofs.finish.Goals as goal
+
+pub returns-in-High : goal.returns-in-High
+returns-in-High c = rw c.in-High.is c.finish.ensures
+
+pub returns-in-Low : goal.returns-in-Low
+returns-in-Low c = rw c.in-Low.is c.finish-in-Low.ensures

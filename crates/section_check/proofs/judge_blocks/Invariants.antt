@@ -1,0 +1,16 @@
+use Rattle.format.specs.Kit.{suc, ◌-◌, ◌*◌, ◌≤◌, length}
+use Rattle.format.specs.Limits.{block_places}
+use Rattle.format.specs.Judge.{judge_from}
+use Rattle.answers.specs.Replies.{order_of}
+use Rattle.section_check.specs.Reasons.{Turn}
+use Rattle.section_check.proofs.judge_blocks.Given as goal
+
+-- `section_check::judge_blocks` meets its contract. The loop's invariant: the judge from the section's start is the judge from here, with the
+-- loop's own place, count and next number, since a turn that goes on passed every test of its blocks. Assumes nothing.
+abbrev pub invariant-loop-at : goal.invariant-loop-at
+invariant-loop-at l =
+    (Turn (judge_from (suc (length l.s)) (order_of l.order) l.p l.s 0 0 0) (order_of l.order) l.p l.s l.at l.count l.next) × (l.at ≤ length l.s)
+    × (l.count ≤ block_places * l.next) × (l.next ≤ 32766)
+
+abbrev pub decreases-loop-at : goal.decreases-loop-at
+decreases-loop-at l = length l.s - l.at

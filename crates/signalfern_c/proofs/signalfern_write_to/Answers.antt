@@ -1,0 +1,7 @@
+-- `signalfern_c::signalfern_write_to` meets its contract. Assumes nothing.
+use Rattle.format.specs.Kit.{ap, ◌∙◌}
+use Rattle.answers.specs.Words.{reply_words}
+use Rattle.signalfern_c.proofs.signalfern_write_to.Goals as goal
+
+pub returns : goal.returns
+returns c = let w = c.write-told in record { replies = c.put_reply.ensures ∙ ap reply_words w.ensures.replies; written = w.ensures.written }
