@@ -18,9 +18,9 @@ returns c =
     let u : Below 256 b = below_all 256 b (λ i. (c.type_inv.bytes i).fits) in
     let l = c.look_up in
     let e = l.ensures in record {
-      says = (look_exactly editions b a.id _).0 (sym e.0);
-      header = header_told {A = Outcome Look} editions b _ (λ why w. refused why w) _ _ e.0
+      says = (look_exactly editions b a.id _).0 (sym e.answers);
+      header = header_told {A = Outcome Look} editions b _ (λ why w. refused why w) _ _ e.answers
           (λ w. (number_exactly editions b u w).looking a.id) (λ w. (short_exactly editions b u w).looking a.id);
-      words = λ x o. few_told x.head.power _ (e.1.0 x o);
-      probes = look_up_probes_lem b a.id l.result e.1.1;
+      words = λ x o. few_told x.head.power _ (e.words x o);
+      probes = look_up_probes_lem b a.id l.result e.probes;
     }

@@ -34,7 +34,7 @@ returns-in-Open-above c =
     (length a.ordinals.now) (length a.values.now) (length a.kinds.now) (length a.columns.now) in
     layered_page_answers m t a.ids.now a.ordinals.now _ a.values.now _ a.kinds.now _ a.columns.now _
     c.look_up_layered_page_in.result (e.replies ∙ ap layered_reply same)
-    (e.ordinals_placed ∙ ap (λ ((goal.at.returns-in-Open-above c).After-open-below : Outcome (List LayeredLook)). layered_after layered_ordinal (goal.at.returns-in-Open-above c).After-open-below a.ordinals.now) same)
-    (e.values_placed ∙ ap (λ ((goal.at.returns-in-Open-above c).After-open-below : Outcome (List LayeredLook)). layered_after layered_value (goal.at.returns-in-Open-above c).After-open-below a.values.now) same)
-    (e.kinds_placed ∙ ap (λ ((goal.at.returns-in-Open-above c).After-open-below : Outcome (List LayeredLook)). layered_after layered_kind (goal.at.returns-in-Open-above c).After-open-below a.kinds.now) same)
-    (e.columns_placed ∙ ap (λ ((goal.at.returns-in-Open-above c).After-open-below : Outcome (List LayeredLook)). layered_after layered_column (goal.at.returns-in-Open-above c).After-open-below a.columns.now) same)
+    (e.ordinals_placed ∙ ap (λ (o : Outcome (List LayeredLook)). layered_after layered_ordinal o a.ordinals.now) same)
+    (e.values_placed ∙ ap (λ (o : Outcome (List LayeredLook)). layered_after layered_value o a.values.now) same)
+    (e.kinds_placed ∙ ap (λ (o : Outcome (List LayeredLook)). layered_after layered_kind o a.kinds.now) same)
+    (e.columns_placed ∙ ap (λ (o : Outcome (List LayeredLook)). layered_after layered_column o a.columns.now) same)

@@ -15,4 +15,4 @@ returns c =
     let e =
     c.first_between_in.ensures
     ∙ ap₂ (λ (l h : ℤ). first_between_in b x l h) (read_back a.low c.ranges.low.sfits) (read_back a.high c.ranges.high.sfits) in
-    subst (BetweenInSays b x a.low a.high) (sym e) (between_in_says b x a.low a.high)
+    record { says = subst (BetweenInSays b x a.low a.high) (sym e) (between_in_says b x a.low a.high) }

@@ -12,4 +12,4 @@ returns c =
     let b = a.bytes.now in
     let x = column_of a.column in
     let l = c.look_up_in in
-    let e = l.ensures in record { says = subst (LookInSays b x a.id) (sym e.0) (look_in_says b x a.id); words = few_told a.column.head.power _ e.1.0; probes = look_up_in_probes b x a.id l.result e.1.1 }
+    let e = l.ensures in record { says = subst (LookInSays b x a.id) (sym e.answers) (look_in_says b x a.id); words = few_told a.column.head.power _ e.words; probes = look_up_in_probes b x a.id l.result e.probes }

@@ -13,4 +13,4 @@ returns c =
     let a = c.args in
     let b = a.bytes.now in
     let u : Below 256 b = below_all 256 b (λ i. (c.type_inv.bytes i).fits) in
-    subst (OpenSays editions b) (sym c.open.ensures) ((open_exactly editions b (open_column editions b) u).0 refl)
+    record { says = subst (OpenSays editions b) (sym c.open.ensures) ((open_exactly editions b (open_column editions b) u).0 refl) }

@@ -15,4 +15,4 @@ returns c =
     let e =
     c.first_between_from_in.ensures
     ∙ ap₂ (λ (l h : ℤ). first_between_from_in b x a.from l h) (read_back a.low c.ranges.low.sfits) (read_back a.high c.ranges.high.sfits) in
-    subst (BetweenFromInSays b x a.from a.low a.high) (sym e) (between_from_in_says b x a.from a.low a.high)
+    record { says = subst (BetweenFromInSays b x a.from a.low a.high) (sym e) (between_from_in_says b x a.from a.low a.high) }

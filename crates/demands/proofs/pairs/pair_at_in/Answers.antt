@@ -10,4 +10,4 @@ returns c =
     let a = c.args in
     let b = a.bytes.now in
     let x = column_of a.column in
-    subst (PairAtInSays b x a.ordinal) (sym c.pair_at_in.ensures) (pair_at_in_says b x a.ordinal)
+    record { says = subst (PairAtInSays b x a.ordinal) (sym c.pair_at_in.ensures) (pair_at_in_says b x a.ordinal) }
