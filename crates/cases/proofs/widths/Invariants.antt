@@ -6,4 +6,4 @@ abbrev pub invariant-loop-spare : goal.invariant-loop-spare
 invariant-loop-spare l = Unit {0}
 
 abbrev pub decreases-loop-spare : goal.decreases-loop-spare
-decreases-loop-spare l = 64 - spare
+decreases-loop-spare l = 64 - l.spare
