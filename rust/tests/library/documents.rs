@@ -563,7 +563,7 @@ fn a_wrong_count_is_found() {
         (format!("the {more} in `must-fail"), "the 201 in `must-fail"),
         (format!("in {files} files of"), "in 44 files of"),
         ("some 3,400 lines in".to_string(), "some 2400 lines in"),
-        ("some 400 lines, which".to_string(), "some 300 lines, which"),
+        ("some 420 lines, which".to_string(), "some 300 lines, which"),
         ("case, some 770:".to_string(), "case, some 650:"),
         ("| 39 computed cases".to_string(), "| 40 computed cases"),
     ] {
