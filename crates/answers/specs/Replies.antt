@@ -1,5 +1,7 @@
 -- The paper's numbers and values for each case of the library's enums. Assumes nothing.
-use Rattle.std.specs.Prelude.{◌≡◌}
+use Rattle.std.specs.Prelude.{◌≡◌, Some, None, Ok, Err}
+use Rattle.std.specs.declared.option.Option as Op
+use Rattle.std.specs.declared.result.Result.{Result}
 use Rattle.format.specs.Kit.{ℕ, Bool, true, false, Option, none, some, ℤ}
 use Rattle.format.specs.Codec.{Fields}
 use Rattle.format.specs.Refusals.{Outcome, done, refused, LENGTHS, POWER, ORDER, RANGE, ROOM}
@@ -10,17 +12,13 @@ use Rattle.format.specs.SetCalls as Sc
 use Rattle.format.specs.Orders.{Order, low_byte, high_byte}
 use Rattle.format.specs.Judge.{cut_off, block_order, place_order, ones_unlike, rank_wrong, end_wrong, jump_wrong, left_over, Verdict, accepted, faulty}
 use Rattle.answers.specs.declared.Refusal as Re
-use Rattle.answers.specs.declared.Reply as Rp
-use Rattle.answers.specs.declared.Answer as An
-use Rattle.answers.specs.declared.Candidate as Ca
+use Rattle.answers.specs.declared.Look as Lk
+use Rattle.answers.specs.declared.Pair as Pa
 use Rattle.answers.specs.declared.Readout as Ro
-use Rattle.answers.specs.declared.Member as Me
 use Rattle.answers.specs.declared.ByteOrder as By
 use Rattle.answers.specs.declared.Reason as Rs
-use Rattle.answers.specs.declared.Judgement as Ju
-use Rattle.answers.specs.declared.Between as Be
+use Rattle.answers.specs.declared.Rejection as Rj
 use Rattle.answers.specs.declared.Fields as Fi
-use Rattle.answers.specs.declared.Fetched as Fe
 
 -- a refusal's number, and the number with it; 5 is not used: it was OFFSET, which cannot happen (document 02, [7])
 abbrev pub refusal_number : Re.Refusal → ℕ
@@ -63,36 +61,45 @@ abbrev pub refused_as : {A : Type 0} → Re.Refusal → Outcome A
 refused_as why = refused (refusal_number why) (refusal_with why)
 
 -- the writer's reply: the column's bytes; the check's and the reading's: n
-abbrev pub reply_of : Rp.Reply → Outcome ℕ
-reply_of (Rp.Reply.Done n) = done n
-reply_of (Rp.Reply.Refused why) = refused_as why
+abbrev pub reply_of : Result ℕ Re.Refusal → Outcome ℕ
+reply_of (Ok n) = done n
+reply_of (Err why) = refused_as why
 
-abbrev pub answer_of : An.Answer → Outcome Look
-answer_of (An.Answer.Found o v w n) = done (found o v w)
-answer_of (An.Answer.Absent w n) = done (absent w)
-answer_of (An.Answer.Refused why) = refused_as why
+abbrev pub look_of : Lk.Look → Look
+look_of (Lk.Look.Found o v w n) = found o v w
+look_of (Lk.Look.Absent w n) = absent w
+
+abbrev pub answer_of : Result Lk.Look Re.Refusal → Outcome Look
+answer_of (Ok look) = done (look_of look)
+answer_of (Err why) = refused_as why
+
+abbrev pub probes_of : Lk.Look → ℕ
+probes_of (Lk.Look.Found o v w k) = k
+probes_of (Lk.Look.Absent w k) = k
 
 -- an answer with so many probes; a refusal has none to tell
-abbrev pub Probed : ℕ → An.Answer → Type 0
-Probed n (An.Answer.Found o v w k) = k ≡ n
-Probed n (An.Answer.Absent w k) = k ≡ n
-Probed n (An.Answer.Refused why) = Unit
+abbrev pub Probed : ℕ → Result Lk.Look Re.Refusal → Type 0
+Probed n (Ok look) = probes_of look ≡ n
+Probed n (Err why) = Unit
 
-abbrev pub candidate_of : Ca.Candidate → Outcome Candidate
-candidate_of (Ca.Candidate.Found id o v) = done (candidate_at id o v)
-candidate_of Ca.Candidate.Nothing = done no_candidate
-candidate_of (Ca.Candidate.Refused why) = refused_as why
+abbrev pub pair_of : Op.Option Pa.Pair → Candidate
+pair_of (Some p) = candidate_at p.id p.ordinal p.value
+pair_of None = no_candidate
+
+abbrev pub candidate_of : Result (Op.Option Pa.Pair) Re.Refusal → Outcome Candidate
+candidate_of (Ok pair) = done (pair_of pair)
+candidate_of (Err why) = refused_as why
 
 -- how many pairs, and whether no listed id is left
-abbrev pub readout_of : Ro.Readout → Outcome (ℕ × Bool)
-readout_of (Ro.Readout.More n) = done (n, false)
-readout_of (Ro.Readout.Ended n) = done (n, true)
-readout_of (Ro.Readout.Refused why) = refused_as why
+abbrev pub readout_of : Result Ro.Readout Re.Refusal → Outcome (ℕ × Bool)
+readout_of (Ok (Ro.Readout.More n)) = done (n, false)
+readout_of (Ok (Ro.Readout.Ended n)) = done (n, true)
+readout_of (Err why) = refused_as why
 
-abbrev pub member_of : Me.Member → Outcome Sc.Member
-member_of (Me.Member.Found o) = done (Sc.member_at o)
-member_of Me.Member.Absent = done Sc.no_member
-member_of (Me.Member.Refused why) = refused_as why
+abbrev pub member_of : Result (Op.Option ℕ) Re.Refusal → Outcome Sc.Member
+member_of (Ok (Some o)) = done (Sc.member_at o)
+member_of (Ok None) = done Sc.no_member
+member_of (Err why) = refused_as why
 
 -- document 02, [9]
 abbrev pub order_of : By.ByteOrder → Order
@@ -110,15 +117,15 @@ reason_number Rs.Reason.JumpWrong = jump_wrong
 reason_number Rs.Reason.LeftOver = left_over
 
 -- a reason is no refusal; HEADER is the one
-abbrev pub judgement_of : Ju.Judgement → Outcome Verdict
-judgement_of (Ju.Judgement.Accepted n) = done (accepted n)
-judgement_of (Ju.Judgement.Faulty why at) = done (faulty (reason_number why) at)
-judgement_of Ju.Judgement.Header = refused HEADER 0
+abbrev pub judgement_of : Result ℕ Rj.Rejection → Outcome Verdict
+judgement_of (Ok n) = done (accepted n)
+judgement_of (Err (Rj.Rejection.Faulty why at)) = done (faulty (reason_number why) at)
+judgement_of (Err Rj.Rejection.Header) = refused HEADER 0
 
-abbrev pub between_of : Be.Between → Outcome (Option ℕ)
-between_of (Be.Between.Found i) = done (some i)
-between_of Be.Between.Nothing = done none
-between_of (Be.Between.Refused why) = refused_as why
+abbrev pub between_of : Result (Op.Option ℕ) Re.Refusal → Outcome (Option ℕ)
+between_of (Ok (Some i)) = done (some i)
+between_of (Ok None) = done none
+between_of (Err why) = refused_as why
 
 -- ---- on the way
 
@@ -127,6 +134,6 @@ abbrev pub fields_of : Fi.Fields → Fields
 fields_of f = record { width = f.width; smallest = f.smallest; divisor = f.divisor }
 
 -- step 7's value, or none
-abbrev pub fetched_of : Fe.Fetched → Option ℤ
-fetched_of (Fe.Fetched.Value v) = some v
-fetched_of Fe.Fetched.Outside = none
+abbrev pub fetched_of : Op.Option ℤ → Option ℤ
+fetched_of (Some v) = some v
+fetched_of None = none

@@ -1,6 +1,6 @@
 -- The question's reader, which knows edition 3 alone, and the question on an opened column. Assumes nothing.
 use Rattle.format.specs.Kit.{◌≡◌, sym, ap, ap₂, ◌∙◌, true, false, List, [], ◌∷◌, none, ℕ, ◌+◌, ◌-◌, ◌/◌, ◌%◌, ◌^◌, ◌≤◌, ◌<◌, and-false, lt-ltb, le-ltb}
-use Rattle.format.specs.Kit.{eq-eqb, ne_eqb, arith, ℤ, le_z, leb, mag, length}
+use Rattle.format.specs.Kit.{cond, not, eqb, eq-eqb, ne_eqb, arith, ℤ, le_z, leb, mag, length}
 use Rattle.format.specs.Kit.{take, drop, take_all, length-take, length-drop, eqb-true}
 use Rattle.format.specs.Refusals.{done, refused, and_then, need, given, EDITION, HEADER, LENGTH}
 use Rattle.format.specs.HeaderNumbers.{number_at}
@@ -10,6 +10,7 @@ use Rattle.format.specs.Opening.{Opened, open_column, head_ok, length_ok, value_
 use Rattle.format.specs.BetweenFrom.{from_value, between_steps_from, first_between_from_in}
 use Rattle.signed.specs.Sign.{biased}
 use Rattle.signed.proofs.Signs.{unbiased_biased}
+use Rattle.laws.proofs.Cases.{true_or, false_true}
 use Rattle.run_search.proofs.Ordered.{le_Z_unbiased}
 
 -- ---- opening
@@ -19,13 +20,20 @@ module _ (bytes : List ℕ) where
   unfolding open_column and_then
   same_unread e = rw e
 
-  pub same_runs : {next : ℕ} → number_at bytes 0 ≡ done (3, next) → open_column (runs ∷ []) bytes ≡ open_column editions bytes
+  same_runs : {next : ℕ} → number_at bytes 0 ≡ done (3, next) → open_column (runs ∷ []) bytes ≡ open_column editions bytes
   unfolding open_column and_then given edition_in editions number_of
   same_runs e = rw e
 
-  pub other_refused : {n next : ℕ} → number_at bytes 0 ≡ done (n, next) → (n ≡ 3 → ⊥) → open_column (runs ∷ []) bytes ≡ refused EDITION 0
+  other_refused : {n next : ℕ} → number_at bytes 0 ≡ done (n, next) → (n ≡ 3 → ⊥) → open_column (runs ∷ []) bytes ≡ refused EDITION 0
   unfolding open_column and_then given edition_in number_of
   other_refused {n} e h = rw (e, ne_eqb n 3 h)
+
+  pub other_read : {n next : ℕ} → number_at bytes 0 ≡ done (n, next)
+      → open_column (runs ∷ []) bytes ≡ cond (not (eqb n 3)) (refused EDITION 0) (open_column editions bytes)
+  other_read {n} {next} e =
+      true_or (eqb n 3)
+      (λ h. rw h (same_runs (e ∙ ap (λ (m : ℕ). done (m, next)) (eqb-true n 3 h))))
+      (λ h. rw h (other_refused e (λ m. false_true (sym h ∙ eq-eqb n 3 m))))
 
 -- ---- the question on an opened column
 

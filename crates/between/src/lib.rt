@@ -11,48 +11,43 @@ ghost use Rattle.answers.specs.Replies.{between_of};
 ghost use Rattle.values.specs.Edition.{edition_of};
 ghost use Rattle.column.specs.Opened.{column_of};
 
-use answers::{Between, Refusal};
-use column::{Column, Opening};
-use header_numbers::Number;
-use run_search::Found;
+use answers::Refusal;
+use column::Column;
 
 // Whether the bytes are of another edition, by the first header number: a reader that knows edition 3 alone refuses them, and else opens
 // them as every reader does.
 fn other_edition(bytes: &[u8]) -> bool
     ensures { open_column (runs ∷ []) bytes.now ≡ cond result (refused EDITION 0) (open_column editions bytes.now) }
 {
-    let first = header_numbers::read_number(bytes, 0);
-    let Number::Is { value, .. } = first else {
-        return false;
-    };
-    if value == column::RUNS {
-        return false;
+    match column::number_at(bytes, 0) {
+        Ok(first) => first.value != column::RUNS,
+        Err(_) => false,
     }
-    true
 }
 
 // On a column of edition 3 that keeps the header rules and fits these bytes.
-fn steps_in(bytes: &[u8], column: Column, from: u64, low: i64, high: i64) -> Between
+fn steps_in(
+    bytes: &[u8],
+    column: Column,
+    from: u64,
+    low: i64,
+    high: i64,
+) -> Result<Option<u64>, Refusal>
     requires { (head_ok (column_of column).head ≡ true) × (length_ok bytes.now (column_of column) ≡ true) × (edition_of column.head.edition ≡ runs) }
     ensures { between_of result ≡ between_steps_from bytes.now (column_of column) from low high }
 {
     let a = signed::biased(low);
     let b = signed::biased(high);
     if b < a {
-        return Between::Nothing;
+        return Ok(None);
     }
     let head = column.head;
     if head.count <= from {
-        return Between::Nothing;
+        return Ok(None);
     }
     let end = (column.start + head.id_bytes) as usize;
     let fields = head.fields;
-    let found = run_search::first_from(&bytes[end..], head.count, fields, from, a, b);
-    match found {
-        Found::At(ordinal) => Between::Found(ordinal),
-        Found::Nothing => Between::Nothing,
-        Found::Broken => Between::Refused(Refusal::Broken),
-    }
+    run_search::first_from(&bytes[end..], head.count, fields, from, a, b)
 }
 
 // ---- the calls from an ordinal on
@@ -65,46 +60,53 @@ pub fn first_between_from_in(
     from: u64,
     low: i64,
     high: i64,
-) -> Between
+) -> Result<Option<u64>, Refusal>
     ensures { between_of result ≡ first_between_from_in bytes.now (column_of column) from low high }
 {
     let head = column.head;
     let edition = head.edition;
     if column::number_of(edition) != column::RUNS {
-        return Between::Refused(Refusal::Edition);
+        return Err(Refusal::Edition);
     }
     if !column::head_ok(head) {
-        return Between::Refused(Refusal::Header);
+        return Err(Refusal::Header);
     }
     if !column::length_ok(bytes, column) {
-        return Between::Refused(Refusal::Length);
+        return Err(Refusal::Length);
     }
     steps_in(bytes, column, from, low, high)
 }
 
 // 7 to 11, 9 for another edition, then 15.
-pub fn first_between_from(bytes: &[u8], from: u64, low: i64, high: i64) -> Between
+pub fn first_between_from(
+    bytes: &[u8],
+    from: u64,
+    low: i64,
+    high: i64,
+) -> Result<Option<u64>, Refusal>
     ensures { between_of result ≡ first_between_from bytes.now from low high }
 {
     if other_edition(bytes) {
-        return Between::Refused(Refusal::Edition);
+        return Err(Refusal::Edition);
     }
-    let opened = Column::open(bytes);
-    match opened {
-        Opening::Refused(why) => Between::Refused(why),
-        Opening::Open(column) => first_between_from_in(column, bytes, from, low, high),
-    }
+    let column = Column::open(bytes)?;
+    first_between_from_in(column, bytes, from, low, high)
 }
 
 // ---- document 02's question: from 0 on
 
-pub fn first_between_in(column: Column, bytes: &[u8], low: i64, high: i64) -> Between
+pub fn first_between_in(
+    column: Column,
+    bytes: &[u8],
+    low: i64,
+    high: i64,
+) -> Result<Option<u64>, Refusal>
     ensures { between_of result ≡ first_between_in bytes.now (column_of column) low high }
 {
     first_between_from_in(column, bytes, 0, low, high)
 }
 
-pub fn first_between(bytes: &[u8], low: i64, high: i64) -> Between
+pub fn first_between(bytes: &[u8], low: i64, high: i64) -> Result<Option<u64>, Refusal>
     ensures { between_of result ≡ first_between bytes.now low high }
 {
     first_between_from(bytes, 0, low, high)

@@ -1,6 +1,6 @@
 -- Ranks and words laid side by side. The loop over strides keeps: what is still to be laid, ranks at their place and words at theirs, gives
 -- what the whole gives; the two never meet, so that their stores may change places. Assumes nothing.
-use Rattle.format.specs.Kit.{◌≡◌, refl, sym, ap, ap₂, ◌∙◌, List, [], ◌++◌, ℕ, suc, ◌+◌, ◌-◌, ◌*◌, ◌/◌, ◌%◌, ◌^◌, ◌≤◌, ◌<◌, zero-le, suc-mul, zero-mul}
+use Rattle.format.specs.Kit.{◌≡◌, refl, sym, ap, ap₂, subst, ◌∙◌, List, [], ◌++◌, ℕ, suc, ◌+◌, ◌-◌, ◌*◌, ◌/◌, ◌%◌, ◌^◌, ◌≤◌, ◌<◌, zero-le, suc-mul, zero-mul}
 use Rattle.format.specs.Kit.{mul-le-mul_right, div-one, mul_assoc, mul_comm, add-one, arith, pow-add, ones, length, sets, ne_eqb}
 use Rattle.format.specs.Limits.{min_power, max_power}
 use Rattle.format.specs.Bytes.{digits, low, high, bytes_of, count_from}
@@ -105,7 +105,7 @@ module _ {xs : List ℕ} {p stride strides : ℕ} {out₀ : List ℕ} {at base :
 
   module _ {t k m sum : ℕ} {out : List ℕ} (g : Ranked xs p stride strides out₀ at base t k m sum out) where
     -- one stride more has room
-    pub room : t < strides → k + stride ≤ 1024
+    room : t < strides → k + stride ≤ 1024
     room h = omega (arith, g.is, mul-le-mul_right stride h, suc-mul t stride, g.st.product)
 
     rank_is : sum ≡ count_below (t * 2 ^ p) (places_from xs 0)
@@ -133,7 +133,7 @@ module _ {xs : List ℕ} {p stride strides : ℕ} {out₀ : List ℕ} {at base :
     module _ {next one : ℕ} {out1 out2 : List ℕ} (h : t < strides) (e1 : out1 ≡ sets out (at + 2 * t) (high 2 sum)) (l1 : length out1 ≡ length out)
         (e2 : out2 ≡ sets out1 (base + 8 * k) (low (8 * stride) (bits_from xs m k))) (l2 : length out2 ≡ length out1)
         (eone : one ≡ ones (bits_from xs m k % 2 ^ (64 * stride))) (one_le : one ≤ 64 * stride) (f : Gone xs m k stride next) where
-      pub more : Ranked xs p stride strides out₀ at base (t + 1) (k + stride) next (sum + one) out2
+      more : Ranked xs p stride strides out₀ at base (t + 1) (k + stride) next (sum + one) out2
       more =
           let rs : List ℕ = places_from xs 0 in
           let v : ℕ = bits_from xs 0 0 in
@@ -174,6 +174,12 @@ module _ {xs : List ℕ} {p stride strides : ℕ} {out₀ : List ℕ} {at base :
                   div_pow v (64 * k) (64 * stride) (64 * (k + stride)) q,
                 );
           }
+
+      -- the words laid are those of the strides
+      pub strided : Ranked xs p stride strides out₀ at base (t + 1) ((t + 1) * stride) next (sum + one) out2
+      strided =
+          let e : k + stride ≡ (t + 1) * stride = rw (add-one t, suc-mul) (ap (λ (n : ℕ). n + stride) g.is) in
+          subst (λ (n : ℕ). Ranked xs p stride strides out₀ at base (t + 1) n next (sum + one) out2) e more
 
 -- without ranks
 pub plain : (xs out₀ : List ℕ) (at : ℕ) {p : ℕ} → p ≡ 0 → sets out₀ at (low (8 * 1024) (bits_from xs 0 0)) ≡ sets out₀ at (bits_of p (places_from xs 0))

@@ -19,17 +19,15 @@ pub fn put_sparse(part: &[u32], out: &mut [u8], at: usize)
     requires { at + 2 * length part.now ≤ length out.old }
     ensures { out.new ≡ sets out.old at (bytes_of (low 2) (places_from part.now 0)) }
 {
-    let mut i = 0;
-    while i < part.len() {
-        let place = blocks::place_of(part[i]);
+    for (i, id) in part.iter().enumerate() {
+        let place = blocks::place_of(*id);
         numbers::put_short(out, at + 2 * i, numbers::long(place));
-        i += 1;
     }
 }
 
 // ---- dense
 
-#[derive(Clone, Copy)]
+#[derive(Clone, Copy, Debug, PartialEq, Eq)]
 struct Word {
     pub bits: u64,
     pub next: usize,
@@ -40,20 +38,19 @@ fn word_of(part: &[u32], from: usize, k: usize) -> Word
     requires { (From part.now from k) × (k < bitmap_longs) }
     ensures { (result.bits ≡ bits_from part.now from k % 2 ^ 64) × (Gone part.now from k 1 result.next) }
 {
+    let n = part.len();
     let mut bits: u64 = 0;
-    let mut m = from;
-    while m < part.len() {
+    for m in from..n {
         let r = blocks::place_of(part[m]);
         if r / 64 != k {
             return Word { bits, next: m };
         }
         bits += numbers::pow2(r % 64);
-        m += 1;
     }
-    Word { bits, next: m }
+    Word { bits, next: n }
 }
 
-#[derive(Clone, Copy)]
+#[derive(Clone, Copy, Debug, PartialEq, Eq)]
 struct Laid {
     pub ones: u64,
     pub next: usize,
@@ -66,15 +63,13 @@ fn put_words(part: &[u32], from: usize, k: usize, n: usize, out: &mut [u8], at: 
         × (result.ones ≡ ones (bits_from part.now from k % 2 ^ (64 * n))) × (result.ones ≤ 64 * n)
         × (Gone part.now from k n result.next) }
 {
-    let mut t = 0;
     let mut m = from;
     let mut sum: u64 = 0;
-    while t < n {
+    for t in 0..n {
         let w = word_of(part, m, k + t);
         numbers::put_long(out, at + 8 * t, w.bits);
         sum += blocks::ones_of(w.bits);
         m = w.next;
-        t += 1;
     }
     Laid { ones: sum, next: m }
 }
@@ -87,17 +82,14 @@ fn put_ranked(part: &[u32], p: usize, out: &mut [u8], at: usize)
     let stride = blocks::stride(p);
     let strides = blocks::strides(p);
     let base = at + 2 * strides;
-    let mut t = 0;
-    let mut k = 0;
     let mut m = 0;
     let mut sum: u64 = 0;
-    while t < strides {
+    for t in 0..strides {
+        let k = t * stride;
         numbers::put_rank(out, at + 2 * t, sum);
         let laid = put_words(part, m, k, stride, out, base + 8 * k);
         sum += laid.ones;
         m = laid.next;
-        k += stride;
-        t += 1;
     }
 }
 
@@ -129,8 +121,7 @@ fn put_data(part: &[u32], p: usize, out: &mut [u8], at: usize)
     requires { (Fine (run_of part.now)) × (Power p) × (at + block_bytes p (length part.now) ≤ 4 + length out.old) }
     ensures { out.new ≡ sets out.old at (block_data p (run_of part.now).places) }
 {
-    let kind = blocks::kind_of(part.len());
-    match kind {
+    match blocks::kind_of(part.len()) {
         Kind::Sparse => put_sparse(part, out, at),
         Kind::Dense => put_dense(part, p, out, at),
         Kind::All => {}

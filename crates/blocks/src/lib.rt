@@ -10,7 +10,7 @@ ghost use Rattle.format.specs.LookUp.{ones_from};
 ghost use Rattle.blocks.specs.Kinds.{kind_is};
 
 // How a block's ids are kept.
-#[derive(Clone, Copy)]
+#[derive(Clone, Copy, Debug, PartialEq, Eq)]
 pub enum Kind {
     Sparse,
     Dense,
@@ -18,7 +18,7 @@ pub enum Kind {
 }
 
 // A block's kind travels with its place and its count: where its data start, the ids before it, how many it has.
-#[derive(Clone, Copy)]
+#[derive(Clone, Copy, Debug, PartialEq, Eq)]
 pub struct Block {
     pub start: usize,
     pub ordinal: u64,
@@ -123,7 +123,7 @@ pub fn block_bytes(p: usize, c: usize) -> usize
 pub fn ones_of(w: u64) -> u64
     ensures { (result ≡ ones_in 64 w) × (result ≤ 64) × (result ≡ ones w) }
 {
-    numbers::wide32(u64::count_ones(w))
+    u64::from(w.count_ones())
 }
 
 // The ones of long i of those at m.
@@ -140,10 +140,8 @@ pub fn ones_from(s: &[u8], m: usize, n: usize, first: usize) -> u64
     ensures { (result ≡ ones_from s.now m n first) × (result ≤ 64 * n) }
 {
     let mut sum: u64 = 0;
-    let mut i = 0;
-    while i < n {
+    for i in 0..n {
         sum += ones_at(s, m, first + i);
-        i += 1;
     }
     sum
 }

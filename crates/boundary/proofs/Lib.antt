@@ -1,4 +1,3 @@
 -- Laws of the boundary.
 pub mod NoEdition
-pub mod Judged
 pub mod Layering

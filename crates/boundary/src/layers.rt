@@ -8,7 +8,8 @@ ghost use Rattle.answers.specs.Words.{answer_words, layered_words, part_words, l
 ghost use Rattle.layered.specs.Answers.{layer_of, part_of, layered_reply_of, layered_readout_of};
 ghost use Rattle.boundary.specs.Kinds.{Apart};
 
-use layered::{Layer, LayeredReadout, LayeredReply, Part};
+use answers::{Readout, Refusal};
+use layered::{Layer, LayerRefusal, LayeredWords, Part};
 
 // signalfern_layered, where the correction's look-up, told so, does not say absent.
 pub fn put_on_top(out: &mut [u64; 7], told: &[u64; 6])
@@ -48,34 +49,36 @@ pub fn put_part(out: &mut [u64; 3], part: Part)
 }
 
 // signalfern_layered_page, for so many ids.
-pub fn put_layered_page(out: &mut [u64; 4], reply: LayeredReply, n: usize)
+pub fn put_layered_page(out: &mut [u64; 4], reply: Result<LayeredWords, Refusal>, n: usize)
     ensures { out.new ≡ layered_page_words n (layered_reply_of reply) }
 {
     match reply {
-        LayeredReply::Done {
-            machine_words,
-            correction_words,
-        } => {
+        Ok(
+            LayeredWords {
+                machine_words,
+                correction_words,
+            },
+        ) => {
             *out = [0, n as u64, machine_words, correction_words];
         }
-        LayeredReply::Refused(why) => {
+        Err(why) => {
             *out = [why.number(), why.number_with(), 0, 0];
         }
     }
 }
 
 // signalfern_layered_readout
-pub fn put_layered_readout(out: &mut [u64; 4], readout: LayeredReadout)
+pub fn put_layered_readout(out: &mut [u64; 4], readout: Result<Readout, LayerRefusal>)
     ensures { out.new ≡ layered_readout_words (layered_readout_of readout) }
 {
     match readout {
-        LayeredReadout::More(n) => {
+        Ok(Readout::More(n)) => {
             *out = [0, 0, 0, n];
         }
-        LayeredReadout::Ended(n) => {
+        Ok(Readout::Ended(n)) => {
             *out = [1, 0, 0, n];
         }
-        LayeredReadout::Refused(layer, why) => {
+        Err(LayerRefusal { layer, why }) => {
             *out = [why.number(), why.number_with(), layer_word(layer), 0];
         }
     }

@@ -9,8 +9,8 @@ ghost use Rattle.answers.specs.Replies.{reply_of, candidate_of};
 ghost use Rattle.answers.specs.Words.{reply_words, column_words, opened_in, candidate_words};
 ghost use Rattle.column.specs.Opened.{column_of, opened_of};
 
-use answers::{ABSENT, Candidate, FOUND, Next, Reply};
-use column::{Column, Known, Opening};
+use answers::{ABSENT, FOUND, Next, Pair, Refusal};
+use column::Column;
 use lookup::apart;
 use values::Edition;
 
@@ -22,25 +22,25 @@ pub mod sections;
 pub mod sets;
 
 // signalfern_reply
-pub fn put_reply(out: &mut [u64; 2], reply: Reply)
+pub fn put_reply(out: &mut [u64; 2], reply: Result<u64, Refusal>)
     ensures { out.new ≡ reply_words (reply_of reply) }
 {
     match reply {
-        Reply::Done(n) => {
+        Ok(n) => {
             *out = [0, n];
         }
-        Reply::Refused(why) => {
+        Err(why) => {
             *out = [why.number(), why.number_with()];
         }
     }
 }
 
 // signalfern_column
-pub fn put_column(out: &mut [u64; 12], opened: Opening)
+pub fn put_column(out: &mut [u64; 12], opened: Result<Column, Refusal>)
     ensures { out.new ≡ column_words (opened_of opened) }
 {
     match opened {
-        Opening::Open(c) => {
+        Ok(c) => {
             let h = c.head;
             let edition = h.edition;
             let f = h.fields;
@@ -59,7 +59,7 @@ pub fn put_column(out: &mut [u64; 12], opened: Opening)
                 c.start,
             ];
         }
-        Opening::Refused(why) => {
+        Err(why) => {
             *out = [
                 why.number(),
                 why.number_with(),
@@ -85,13 +85,13 @@ pub fn put_candidate(out: &mut [u64; 6], next: Next)
     let last = next.cursor.last;
     let candidate = next.candidate;
     match candidate {
-        Candidate::Found { id, ordinal, value } => {
+        Ok(Some(Pair { id, ordinal, value })) => {
             *out = [FOUND, 0, id as u64, ordinal, signed::bits_of(value), last];
         }
-        Candidate::Nothing => {
+        Ok(None) => {
             *out = [ABSENT, 0, 0, 0, 0, last];
         }
-        Candidate::Refused(why) => {
+        Err(why) => {
             *out = [why.number(), why.number_with(), 0, 0, 0, last];
         }
     }
@@ -104,7 +104,7 @@ const TOO_WIDE: u64 = Column::MAX_WIDTH + 1;
 pub fn column_in(words: &[u64; 12]) -> Column
     ensures { column_of result ≡ opened_in words.now }
 {
-    let Known::Is(edition) = column::edition_in(words[2]) else {
+    let Some(edition) = column::edition_in(words[2]) else {
         return apart::laid_as(Edition::Plain, TOO_WIDE, words);
     };
     apart::laid(edition, words)

@@ -3,17 +3,17 @@ ghost use Rattle.std.specs.Prelude.{◌≡◌};
 ghost use Rattle.answers.specs.Replies.{reply_of};
 ghost use Rattle.answers.specs.Words.{page_words};
 
-use answers::Reply;
+use answers::Refusal;
 
 // signalfern_page, for so many ids.
-pub fn put_page(out: &mut [u64; 3], reply: Reply, n: usize)
+pub fn put_page(out: &mut [u64; 3], reply: Result<u64, Refusal>, n: usize)
     ensures { out.new ≡ page_words n (reply_of reply) }
 {
     match reply {
-        Reply::Done(words) => {
+        Ok(words) => {
             *out = [0, n as u64, words];
         }
-        Reply::Refused(why) => {
+        Err(why) => {
             *out = [why.number(), why.number_with(), 0];
         }
     }

@@ -3,20 +3,20 @@ ghost use Rattle.std.specs.Prelude.{◌≡◌};
 ghost use Rattle.answers.specs.Replies.{between_of};
 ghost use Rattle.answers.specs.Words.{between_words};
 
-use answers::{ABSENT, Between, FOUND};
+use answers::{ABSENT, FOUND, Refusal};
 
 // signalfern_between
-pub fn put_between(out: &mut [u64; 3], between: Between)
+pub fn put_between(out: &mut [u64; 3], between: Result<Option<u64>, Refusal>)
     ensures { out.new ≡ between_words (between_of between) }
 {
     match between {
-        Between::Found(ordinal) => {
+        Ok(Some(ordinal)) => {
             *out = [FOUND, 0, ordinal];
         }
-        Between::Nothing => {
+        Ok(None) => {
             *out = [ABSENT, 0, 0];
         }
-        Between::Refused(why) => {
+        Err(why) => {
             *out = [why.number(), why.number_with(), 0];
         }
     }

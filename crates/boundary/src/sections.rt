@@ -3,7 +3,7 @@ ghost use Rattle.std.specs.Prelude.{◌≡◌};
 ghost use Rattle.answers.specs.Replies.{order_of, judgement_of};
 ghost use Rattle.answers.specs.Words.{order_in, judgement_words};
 
-use answers::{ByteOrder, Judgement, Refusal};
+use answers::{ByteOrder, Refusal, Rejection};
 
 pub fn order_in(high_first: u32) -> ByteOrder
     ensures { order_of result ≡ order_in high_first }
@@ -15,19 +15,18 @@ pub fn order_in(high_first: u32) -> ByteOrder
 }
 
 // signalfern_judgement
-pub fn put_judgement(out: &mut [u64; 4], judgement: Judgement)
+pub fn put_judgement(out: &mut [u64; 4], judgement: Result<u64, Rejection>)
     ensures { out.new ≡ judgement_words (judgement_of judgement) }
 {
     match judgement {
-        Judgement::Accepted(n) => {
+        Ok(n) => {
             *out = [0, n, 0, 0];
         }
-        Judgement::Faulty(why, at) => {
+        Err(Rejection::Faulty(why, at)) => {
             *out = [1, 0, at, why.number()];
         }
-        Judgement::Header => {
-            let why = Refusal::Header;
-            *out = [why.number(), 0, 0, 0];
+        Err(Rejection::Header) => {
+            *out = [Refusal::Header.number(), 0, 0, 0];
         }
     }
 }

@@ -11,9 +11,8 @@ ghost use Rattle.answers.specs.Replies.{reply_of};
 ghost use Rattle.column.specs.Opened.{head_is, column_of};
 ghost use Rattle.checking.specs.Tests.{ids_ok, is_taken};
 
-use answers::{ByteOrder, Refusal, Reply};
-use column::{Column, Head, Opening};
-use section_check::Verdict;
+use answers::{ByteOrder, Refusal};
+use column::{Column, Head};
 
 pub mod section;
 
@@ -25,8 +24,8 @@ fn ids_ok(section: &[u8], h: Head) -> bool
     let p = numbers::size(h.power);
     let j = numbers::size(h.jump_count);
     match section_check::judge(section, ByteOrder::LowFirst, p, j) {
-        Verdict::Accepted(n) => n == h.count,
-        Verdict::Faulty(_, _) => false,
+        Ok(n) => n == h.count,
+        Err(_) => false,
     }
 }
 
@@ -47,17 +46,12 @@ pub fn accepts(bytes: &[u8], c: Column) -> bool
 }
 
 // n for a column, and else the first refusal.
-pub fn check(bytes: &[u8]) -> Reply
+pub fn check(bytes: &[u8]) -> Result<u64, Refusal>
     ensures { reply_of result ≡ check editions bytes.now }
 {
-    match Column::open(bytes) {
-        Opening::Refused(why) => Reply::Refused(why),
-        Opening::Open(c) => {
-            if !accepts(bytes, c) {
-                return Reply::Refused(Refusal::Damaged);
-            }
-            let h = c.head;
-            Reply::Done(h.count)
-        }
+    let c = Column::open(bytes)?;
+    if !accepts(bytes, c) {
+        return Err(Refusal::Damaged);
     }
+    Ok(c.head.count)
 }

@@ -1,11 +1,11 @@
 // A header whose numbers are short, read at once: what it says goes from call to call as single words.
-ghost use Rattle.std.specs.Prelude.{◌≡◌, [], ◌∷◌, ◌+◌, ◌≤◌, length};
+ghost use Rattle.std.specs.Prelude.{◌≡◌, ◌+◌, ◌≤◌, length};
 ghost use Rattle.format.specs.Editions.{editions};
-ghost use Rattle.format.specs.Opening.{head_from, open_column};
+ghost use Rattle.format.specs.Opening.{open_column};
 ghost use Rattle.values.specs.Edition.{edition_of};
-ghost use Rattle.column.specs.Opened.{head_is, column_of, judged_as, ReadOn};
+ghost use Rattle.column.specs.Opened.{column_of, judged_as, ReadOn};
 
-use super::{Column, Head, Known, edition_in};
+use super::{Column, Head, edition_in, head_from};
 use header_numbers::{quick_byte, quick_more, quick_number};
 use values::{Edition, Fields};
 
@@ -39,35 +39,6 @@ fn no_header() -> Column
     }
 }
 
-// The header of eight numbers that were read.
-fn quick_head(
-    edition: Edition,
-    n: u64,
-    p: u64,
-    l: u64,
-    j: u64,
-    w: u64,
-    smallest: u64,
-    g: u64,
-    v: u64,
-) -> Head
-    ensures { head_is result ≡ head_from (edition_of edition) (n ∷ p ∷ l ∷ j ∷ w ∷ smallest ∷ g ∷ v ∷ []) }
-{
-    Head {
-        edition,
-        count: n,
-        power: p,
-        id_bytes: l,
-        jump_count: j,
-        fields: Fields {
-            width: w,
-            smallest,
-            divisor: g,
-        },
-        value_bytes: v,
-    }
-}
-
 // The numbers from w on, at a place after those of n, p, L and J.
 fn quick_values(bytes: &[u8], edition: Edition, n: u64, p: u64, l: u64, j: u64, at: usize) -> Column
     requires { (at ≤ 21) × (45 ≤ length bytes.now) }
@@ -94,7 +65,7 @@ fn quick_values(bytes: &[u8], edition: Edition, n: u64, p: u64, l: u64, j: u64, 
     }
     let start = place_after(after_g, v.len);
     Column {
-        head: quick_head(
+        head: head_from(
             edition,
             n,
             p,
@@ -121,7 +92,7 @@ pub fn quick(bytes: &[u8]) -> Column
     if first.len != 1 {
         return no_header();
     }
-    let Known::Is(edition) = edition_in(first.value) else {
+    let Some(edition) = edition_in(first.value) else {
         return no_header();
     };
     let n = quick_more(bytes, 1);

@@ -14,7 +14,7 @@ use Rattle.format.specs.Next as Nx
 use Rattle.format.specs.Next.{next, next_in, last_after, list_next}
 use Rattle.format.specs.FirstBetween.{first_in, first_between}
 use Rattle.format.specs.BetweenFrom.{first_between_from}
-use Rattle.format.specs.ReadFrom.{Readout, read_from, readout_reply, readout_after, list_read_from}
+use Rattle.format.specs.ReadFrom.{Readout, read_from, readout_reply, readout_after}
 use Rattle.format.specs.PairAt.{pair_at, list_pair}
 use Rattle.format.specs.LayeredReading.{LayeredRead, pair_id, pair_value, pair_column, read_layered, layered_read_reply, layered_read_after}
 use Rattle.format.specs.SetBytes.{set_bytes}
@@ -38,17 +38,18 @@ use Rattle.laws.proofs.Demands.{opened_look_up}
 use Rattle.format.specs.Lists.{SetOf}
 use Rattle.set_format.proofs.Demands.{alike}
 use Rattle.answers.specs.Replies.{reply_of, answer_of, candidate_of, readout_of, Probed}
-use Rattle.answers.specs.declared.Reply.{Reply}
-use Rattle.answers.specs.declared.Answer as An
-use Rattle.answers.specs.declared.Answer.{Answer}
 use Rattle.answers.specs.declared.Next.{Next}
 use Rattle.answers.specs.declared.Readout as Ro
 use Rattle.layered.specs.Answers.{layered_of, layered_readout_of}
-use Rattle.layered.specs.declared.LayeredReadout as Lr
-use Rattle.layered.specs.declared.Layered.{Layered}
 use Rattle.demands.specs.Terms.{Holds, pairs_of, WordsBound, FewProbes, Answers, LayeredAnswers, asked, PageAnswers, NextAnswers, ReadFromAnswers}
 use Rattle.demands.specs.Terms.{LayeredReadAnswers}
 use Rattle.demands.proofs.Lists.{as_read}
+use Rattle.std.specs.Prelude.{Ok, Err}
+use Rattle.std.specs.declared.result.Result.{Result}
+use Rattle.answers.specs.declared.Refusal as Re
+use Rattle.answers.specs.declared.Look as Lk
+use Rattle.layered.specs.declared.LayeredLook as Ly
+use Rattle.layered.specs.declared.LayerRefusal as Rf
 
 -- ---- words and probes, on any bytes
 
@@ -69,20 +70,20 @@ few_told p (done (found i v w)) h = few p w h
 few_told p (done (absent w)) h = one p w h
 few_told p (refused why x) h = one p 0 (omega arith)
 
-few_probes : (n : ℕ) → n ≤ 12 → (a : Answer) → Probed n a → FewProbes a
-few_probes n h (An.Answer.Found o v w k) e = omega arith
-few_probes n h (An.Answer.Absent w k) e = omega arith
-few_probes n h (An.Answer.Refused why) e = tt
+few_probes : (n : ℕ) → n ≤ 12 → (a : Result Lk.Look Re.Refusal) → Probed n a → FewProbes a
+few_probes n h (Ok (Lk.Look.Found o v w k)) e = omega arith
+few_probes n h (Ok (Lk.Look.Absent w k)) e = omega arith
+few_probes n h (Err why) e = tt
 
-pub look_up_probes_lem : (bytes : List ℕ) (id : ℕ) (a : Answer) → Probed (look_up_probes editions bytes id) a → FewProbes a
+pub look_up_probes_lem : (bytes : List ℕ) (id : ℕ) (a : Result Lk.Look Re.Refusal) → Probed (look_up_probes editions bytes id) a → FewProbes a
 look_up_probes_lem bytes id a k = few_probes (look_up_probes editions bytes id) (look_up_probes_few editions bytes id) a k
 
-pub look_up_in_probes : (bytes : List ℕ) (c : Opened) (id : ℕ) (a : Answer) → Probed (step_probes bytes c id) a → FewProbes a
+pub look_up_in_probes : (bytes : List ℕ) (c : Opened) (id : ℕ) (a : Result Lk.Look Re.Refusal) → Probed (step_probes bytes c id) a → FewProbes a
 look_up_in_probes bytes c id a k = few_probes (step_probes bytes c id) (step_probes_few bytes c id) a k
 
 -- ---- the look-up
 
-pub answered : (bytes : List ℕ) (id : ℕ) (a : Answer) → answer_of a ≡ look_up editions bytes id → Probed (look_up_probes editions bytes id) a
+pub answered : (bytes : List ℕ) (id : ℕ) (a : Result Lk.Look Re.Refusal) → answer_of a ≡ look_up editions bytes id → Probed (look_up_probes editions bytes id) a
     → (n : ℕ) (x : Holds bytes n) → id ≤ max_id → Answers x id a
 unfolding the_column head_of the_head
 answered bytes id a k p n x h =
@@ -101,7 +102,7 @@ answered bytes id a k p n x h =
           p;
     }
 
-pub opened_answered : (bytes : List ℕ) (id : ℕ) (a : Answer) (c : Opened) → open_column editions bytes ≡ done c → answer_of a ≡ look_up_in bytes c id
+pub opened_answered : (bytes : List ℕ) (id : ℕ) (a : Result Lk.Look Re.Refusal) (c : Opened) → open_column editions bytes ≡ done c → answer_of a ≡ look_up_in bytes c id
     → Probed (step_probes bytes c id) a → (n : ℕ) (x : Holds bytes n) → id ≤ max_id → Answers x id a
 opened_answered bytes id a c o k p =
     answered bytes id a (k ∙ opened_look_up editions bytes c id o) (subst (λ (m : ℕ). Probed m a) (sym (opened_probes_lem editions bytes c id o)) p)
@@ -123,11 +124,11 @@ layered_answers m i x c j y id h =
       correction_few_words = few y.power (words y.power y.ids id) (words_le y.power y.ids id);
     }
 
-pub layered_answered : (m c : List ℕ) (id : ℕ) (a : Layered) → layered_of a ≡ look_up_layered editions m c id
+pub layered_answered : (m c : List ℕ) (id : ℕ) (a : Result Ly.LayeredLook Rf.LayerRefusal) → layered_of a ≡ look_up_layered editions m c id
     → (i j : ℕ) (x : Holds m i) (y : Holds c j) → id ≤ max_id → LayeredAnswers x y id (layered_of a)
 layered_answered m c id a k i j x y h = subst (LayeredAnswers x y id) (sym k) (layered_answers m i x c j y id h)
 
-pub opened_layered_answered : (m c : List ℕ) (id : ℕ) (a : Layered) (u v : Opened) → open_column editions m ≡ done u → open_column editions c ≡ done v
+pub opened_layered_answered : (m c : List ℕ) (id : ℕ) (a : Result Ly.LayeredLook Rf.LayerRefusal) (u v : Opened) → open_column editions m ≡ done u → open_column editions c ≡ done v
     → layered_of a ≡ look_up_layered_in m u c v id
     → (i j : ℕ) (x : Holds m i) (y : Holds c j) → id ≤ max_id → LayeredAnswers x y id (layered_of a)
 opened_layered_answered m c id a u v eu ev k = layered_answered m c id a (k ∙ Ld.opened_layered editions m u c v id eu ev)
@@ -156,7 +157,7 @@ all_asked : (bytes : List ℕ) (n : ℕ) (x : Holds bytes n) (ids : List ℕ) �
 all_asked bytes n x [] = refl
 all_asked bytes n x (id ∷ ids) = ap₂ ◌∷◌ (asked_is bytes n x id) (all_asked bytes n x ids)
 
-module _ (bytes ids os os' : List ℕ) (vs vs' : List ℤ) (ks ks' : List ℕ) (r : Reply)
+module _ (bytes ids os os' : List ℕ) (vs vs' : List ℤ) (ks ks' : List ℕ) (r : Result ℕ Re.Refusal)
     (kept : reply_of r ≡ page_reply (page editions bytes ids (length os) (length vs) (length ks)))
     (ko : os' ≡ page_after place_ordinal (page editions bytes ids (length os) (length vs) (length ks)) os)
     (kv : vs' ≡ page_after place_value (page editions bytes ids (length os) (length vs) (length ks)) vs)
@@ -194,7 +195,7 @@ next_in_is bytes c last t o = opened_next bytes c last t editions o
 
 -- ---- pairs from an id on, and by ordinal
 
-module _ (bytes : List ℕ) (t : ℕ) (is is' : List ℕ) (xs xs' : List ℤ) (r : Ro.Readout)
+module _ (bytes : List ℕ) (t : ℕ) (is is' : List ℕ) (xs xs' : List ℤ) (r : Result Ro.Readout Re.Refusal)
     (kept : readout_of r ≡ readout_reply (read_from editions bytes t (min (length is) (length xs))))
     (ki : is' ≡ readout_after (λ w. w.ids) (read_from editions bytes t (min (length is) (length xs))) is)
     (kx : xs' ≡ readout_after (λ w. w.values) (read_from editions bytes t (min (length is) (length xs))) xs) where
@@ -209,7 +210,7 @@ module _ (bytes : List ℕ) (t : ℕ) (is is' : List ℕ) (xs xs' : List ℤ) (r
         values = kx ∙ ap (λ (o : Outcome Readout). readout_after (λ w. w.values) o xs) e;
       }
 
-module _ (m c : List ℕ) (t : ℕ) (is is' : List ℕ) (xs xs' : List ℤ) (cs cs' : List ℕ) (r : Lr.LayeredReadout)
+module _ (m c : List ℕ) (t : ℕ) (is is' : List ℕ) (xs xs' : List ℤ) (cs cs' : List ℕ) (r : Result Ro.Readout Rf.LayerRefusal)
     (kept : layered_readout_of r ≡ layered_read_reply (read_layered editions m c t (min (length cs) (min (length is) (length xs)))))
     (ki : is' ≡ layered_read_after pair_id (read_layered editions m c t (min (length cs) (min (length is) (length xs)))) is)
     (kx : xs' ≡ layered_read_after pair_value (read_layered editions m c t (min (length cs) (min (length is) (length xs)))) xs)

@@ -8,17 +8,19 @@ use Rattle.format.specs.LayeredPage.{layered_ordinal, layered_value, layered_kin
 use Rattle.laws.proofs.RoundTrip.{the_head, the_column}
 use Rattle.laws.proofs.LayeredPages.{enough, lists_page_lem, reply_sums}
 use Rattle.layered.specs.Answers.{layered_reply_of}
-use Rattle.layered.specs.declared.LayeredReply.{LayeredReply}
 use Rattle.demands.specs.Terms.{Holds, pairs_of}
 use Rattle.demands.specs.LayeredTerms.{LayeredPageAnswers}
 use Rattle.demands.proofs.Lists.{as_read}
+use Rattle.std.specs.declared.result.Result.{Result}
+use Rattle.answers.specs.declared.Refusal as Re
+use Rattle.layered.specs.declared.LayeredWords as Lw
 
 page_refused : (o : Outcome (List LayeredLook)) (why w : ℕ) → layered_reply o ≡ refused why w → o ≡ refused why w
 unfolding layered_reply
 page_refused (done q) why w e = absurd (let z : ◌≡◌ {A = ℕ} 0 1 = cc in omega arith)
 page_refused (refused x y) why w e = cc
 
-module _ (o : Outcome (List LayeredLook)) (os os' : List ℕ) (vs vs' : List ℤ) (ks ks' cs cs' : List ℕ) (r : LayeredReply) where
+module _ (o : Outcome (List LayeredLook)) (os os' : List ℕ) (vs vs' : List ℤ) (ks ks' cs cs' : List ℕ) (r : Result Lw.LayeredWords Re.Refusal) where
   pub layered_page_kept : layered_reply_of r ≡ layered_reply o → os' ≡ layered_after layered_ordinal o os → vs' ≡ layered_after layered_value o vs
       → ks' ≡ layered_after layered_kind o ks → cs' ≡ layered_after layered_column o cs
       → (why w : ℕ) → layered_reply_of r ≡ refused why w → (os' ≡ os) × (vs' ≡ vs) × (ks' ≡ ks) × (cs' ≡ cs)
@@ -31,7 +33,7 @@ module _ (o : Outcome (List LayeredLook)) (os os' : List ℕ) (vs vs' : List ℤ
         kc ∙ ap (λ (o : Outcome (List LayeredLook)). layered_after layered_column o cs) f,
       )
 
-module _ (m c ids os os' : List ℕ) (vs vs' : List ℤ) (ks ks' cs cs' : List ℕ) (r : LayeredReply)
+module _ (m c ids os os' : List ℕ) (vs vs' : List ℤ) (ks ks' cs cs' : List ℕ) (r : Result Lw.LayeredWords Re.Refusal)
     (kept : layered_reply_of r ≡ layered_reply (layered_page editions m c ids (length os) (length vs) (length ks) (length cs)))
     (ko : os' ≡ layered_after layered_ordinal (layered_page editions m c ids (length os) (length vs) (length ks) (length cs)) os)
     (kv : vs' ≡ layered_after layered_value (layered_page editions m c ids (length os) (length vs) (length ks) (length cs)) vs)

@@ -12,12 +12,9 @@ use Rattle.laws.proofs.RoundTrip.{the_column}
 use Rattle.laws.proofs.Demands as De
 use Rattle.laws.proofs.Demands.{accepts_columns_all, columns_accepted_all, one_list_all, accepted_answers, read_back_all}
 use Rattle.answers.specs.Replies.{reply_of}
-use Rattle.answers.specs.declared.Refusal.{Refusal}
-use Rattle.answers.specs.declared.Reply.{Reply}
-use Rattle.column.specs.Opened.{opened_of}
-use Rattle.column.specs.declared.Opening as Od
-use Rattle.column.specs.declared.Opening.{Opening}
 use Rattle.demands.specs.Terms.{Holds, pairs_of, Same, Filled}
+use Rattle.std.specs.declared.result.Result.{Result}
+use Rattle.answers.specs.declared.Refusal as Re
 
 -- ---- the check accepts exactly the bytes that hold a list, and that is one list
 
@@ -47,7 +44,7 @@ accepts bytes n x =
       count = x.count;
     })
 
-pub accepts_exactly : (bytes : List ℕ) (r : Reply) → reply_of r ≡ check editions bytes → (n : ℕ) → (reply_of r ≡ done n) ↔ Holds bytes n
+pub accepts_exactly : (bytes : List ℕ) (r : Result ℕ Re.Refusal) → reply_of r ≡ check editions bytes → (n : ℕ) → (reply_of r ≡ done n) ↔ Holds bytes n
 accepts_exactly bytes r k n = (λ e. holds bytes n (sym k ∙ e), λ x. k ∙ accepts bytes n x)
 
 pub one_list : (bytes : List ℕ) (m n : ℕ) (x : Holds bytes m) (y : Holds bytes n) → Same x y
@@ -75,10 +72,8 @@ as_read bytes n x =
     }
 
 -- bytes that hold a list are opened
-pub not_refused : {X : Type 0} (bytes : List ℕ) (o : Opening) (why : Refusal) → opened_of o ≡ open_column editions bytes → o ≡ Od.Opening.Refused why
-    → (n : ℕ) → Holds bytes n → X
-not_refused bytes o why k e n x =
-    absurd (let f = sym (as_read bytes n x).is_opened ∙ sym k ∙ ap opened_of e in let z : ◌≡◌ {A = ℕ} 0 1 = cc in omega arith)
+pub not_refused : {X : Type 0} (bytes : List ℕ) {why w : ℕ} → refused why w ≡ open_column editions bytes → (n : ℕ) → Holds bytes n → X
+not_refused bytes k n x = absurd (let f = sym (as_read bytes n x).is_opened ∙ sym k in let z : ◌≡◌ {A = ℕ} 0 1 = cc in omega arith)
 
 -- the same list, of the same bytes
 abbrev pub moved : (a b : List ℕ) → a ≡ b → (n : ℕ) (x : Holds a n) → Holds b (length x.ids)
@@ -95,7 +90,7 @@ moved a b e n x =
 
 -- ---- the reading
 
-module _ (bytes is is' : List ℕ) (xs xs' : List ℤ) (r : Reply)
+module _ (bytes is is' : List ℕ) (xs xs' : List ℤ) (r : Result ℕ Re.Refusal)
     (kept : reply_of r ≡ read_reply (reading editions bytes (length is) (length xs)))
     (ids_after_is : is' ≡ ids_after (reading editions bytes (length is) (length xs)) is)
     (values_after_is : xs' ≡ values_after (reading editions bytes (length is) (length xs)) xs) where

@@ -14,19 +14,20 @@ use Rattle.format.specs.LayeredReading.{LayeredRead, read_to, refused_read, pair
 use Rattle.format.specs.Faults.{BrokenAt, EndsAt}
 use Rattle.answers.specs.Replies.{reply_of, readout_of}
 use Rattle.answers.specs.declared.Refusal.{Refusal}
-use Rattle.answers.specs.declared.Reply as Rp
-use Rattle.answers.specs.declared.Reply.{Reply}
 use Rattle.answers.specs.declared.Readout as Ro
 use Rattle.layered.specs.Answers.{layered_readout_of}
-use Rattle.layered.specs.declared.LayeredReadout as Lr
 use Rattle.demands.specs.Terms.{Writes, HeaderTold, ComesBack}
+use Rattle.std.specs.Prelude.{Ok, Err}
+use Rattle.std.specs.declared.result.Result.{Result}
+use Rattle.answers.specs.declared.Refusal as Re
+use Rattle.layered.specs.declared.LayerRefusal as Rf
 
 -- ---- done or refused
 
-pub not_done : {X : Type 0} (r : Reply) (why : Refusal) → r ≡ Rp.Reply.Refused why → (n : ℕ) → reply_of r ≡ done n → X
+pub not_done : {X : Type 0} (r : Result ℕ Re.Refusal) (why : Refusal) → r ≡ Err why → (n : ℕ) → reply_of r ≡ done n → X
 not_done r why e n d = absurd (let f = sym (ap reply_of e) ∙ d in let z : ◌≡◌ {A = ℕ} 0 1 = cc in omega arith)
 
-pub not_refusal : {X : Type 0} (r : Reply) (n : ℕ) → r ≡ Rp.Reply.Done n → (why w : ℕ) → reply_of r ≡ refused why w → X
+pub not_refusal : {X : Type 0} (r : Result ℕ Re.Refusal) (n : ℕ) → r ≡ Ok n → (why w : ℕ) → reply_of r ≡ refused why w → X
 not_refusal r n e why w d = absurd (let f = sym (ap reply_of e) ∙ d in let z : ◌≡◌ {A = ℕ} 0 1 = cc in omega arith)
 
 pub done_is : {m n : ℕ} → ◌≡◌ {A = Outcome ℕ} (done m) (done n) → m ≡ n
@@ -39,7 +40,7 @@ reply_refused (refused x y) why w e = cc
 
 -- ---- an output, whatever is written: a refusal keeps it, and a success puts what it writes at its front
 
-module _ {A : Type 0} (out out' : List A) (r : Reply) (o : Outcome (List A)) (kept : reply_of r ≡ write_reply o) (after : out' ≡ write_out o out) where
+module _ {A : Type 0} (out out' : List A) (r : Result ℕ Re.Refusal) (o : Outcome (List A)) (kept : reply_of r ≡ write_reply o) (after : out' ≡ write_out o out) where
   pub output_kept : (why w : ℕ) → reply_of r ≡ refused why w → out' ≡ out
   unfolding write_reply write_out
   output_kept why w e = after ∙ ap (λ (x : Outcome (List A)). write_out x out) (reply_refused o why w (sym kept ∙ e))
@@ -65,7 +66,7 @@ module _ {A : Type 0} (out out' : List A) (r : Reply) (o : Outcome (List A)) (ke
       omega (arith, ap length b.2, length-take n out', m)
 
 -- exactly these bytes whenever there is room, and else ROOM
-pub puts : (bytes out out' : List ℕ) (r : Reply) (o : Outcome (List ℕ)) → reply_of r ≡ write_reply o → out' ≡ write_out o out
+pub puts : (bytes out out' : List ℕ) (r : Result ℕ Re.Refusal) (o : Outcome (List ℕ)) → reply_of r ≡ write_reply o → out' ≡ write_out o out
     → (length bytes ≤ length out → o ≡ done bytes) → (length out < length bytes → o ≡ refused ROOM (length bytes)) → Writes bytes out out' r
 unfolding write_reply write_out
 puts bytes out out' r o kept after fits lacks =
@@ -81,7 +82,7 @@ unfolding read_reply
 read_refused (done q) why w e = absurd (let z : ◌≡◌ {A = ℕ} 0 1 = cc in omega arith)
 read_refused (refused x y) why w e = cc
 
-pub read_kept : (o : Outcome Pairs) (is is' : List ℕ) (xs xs' : List ℤ) (r : Reply) → reply_of r ≡ read_reply o → is' ≡ ids_after o is → xs' ≡ values_after o xs
+pub read_kept : (o : Outcome Pairs) (is is' : List ℕ) (xs xs' : List ℤ) (r : Result ℕ Re.Refusal) → reply_of r ≡ read_reply o → is' ≡ ids_after o is → xs' ≡ values_after o xs
     → (why w : ℕ) → reply_of r ≡ refused why w → (is' ≡ is) × (xs' ≡ xs)
 unfolding ids_after values_after
 read_kept o is is' xs xs' r k ki kx why w e =
@@ -89,7 +90,7 @@ read_kept o is is' xs xs' r k ki kx why w e =
     (ki ∙ ap (λ (o : Outcome Pairs). ids_after o is) f, kx ∙ ap (λ (o : Outcome Pairs). values_after o xs) f)
 
 -- what comes back by a writer's reply comes back by one that is equal to it
-pub comes_back : (ids : List ℕ) (vs : List ℤ) (is is' : List ℕ) (xs xs' : List ℤ) (wrote wrote' checked read : Reply) → wrote' ≡ wrote
+pub comes_back : (ids : List ℕ) (vs : List ℤ) (is is' : List ℕ) (xs xs' : List ℤ) (wrote wrote' checked read : Result ℕ Re.Refusal) → wrote' ≡ wrote
     → ((n : ℕ) → reply_of wrote ≡ done n → ComesBack ids vs is is' xs xs' wrote checked read)
     → ((why w : ℕ) → reply_of wrote ≡ refused why w → (is' ≡ is) × (xs' ≡ xs)) → ComesBack ids vs is is' xs xs' wrote' checked read
 comes_back ids vs is is' xs xs' wrote wrote' checked read same back kept =
@@ -106,7 +107,7 @@ unfolding page_reply
 page_refused (done q) why w e = absurd (let z : ◌≡◌ {A = ℕ} 0 1 = cc in omega arith)
 page_refused (refused x y) why w e = cc
 
-pub page_kept : (o : Outcome (List (Outcome Look))) (os os' : List ℕ) (vs vs' : List ℤ) (ks ks' : List ℕ) (r : Reply) → reply_of r ≡ page_reply o
+pub page_kept : (o : Outcome (List (Outcome Look))) (os os' : List ℕ) (vs vs' : List ℤ) (ks ks' : List ℕ) (r : Result ℕ Re.Refusal) → reply_of r ≡ page_reply o
     → os' ≡ page_after place_ordinal o os → vs' ≡ page_after place_value o vs → ks' ≡ page_after place_kind o ks
     → (why w : ℕ) → reply_of r ≡ refused why w → (os' ≡ os) × (vs' ≡ vs) × (ks' ≡ ks)
 unfolding page_after
@@ -124,7 +125,7 @@ unfolding readout_reply
 readout_refused (done q) why w e = absurd (let z : ◌≡◌ {A = ℕ} 0 1 = cc in omega arith)
 readout_refused (refused x y) why w e = cc
 
-pub readout_kept : (o : Outcome Readout) (is is' : List ℕ) (xs xs' : List ℤ) (r : Ro.Readout) → readout_of r ≡ readout_reply o
+pub readout_kept : (o : Outcome Readout) (is is' : List ℕ) (xs xs' : List ℤ) (r : Result Ro.Readout Re.Refusal) → readout_of r ≡ readout_reply o
     → is' ≡ readout_after (λ w. w.ids) o is → xs' ≡ readout_after (λ w. w.values) o xs
     → (why w : ℕ) → readout_of r ≡ refused why w → (is' ≡ is) × (xs' ≡ xs)
 unfolding readout_after
@@ -143,7 +144,7 @@ unfolding layered_read_reply
 layered_readout_refused (read_to r) layer why w e = absurd (let z : ◌≡◌ {A = ℕ} 0 1 = cc in omega arith)
 layered_readout_refused (refused_read l v x) layer why w e = cc
 
-module _ (o : LayeredRead) (is is' : List ℕ) (xs xs' : List ℤ) (cs cs' : List ℕ) (r : Lr.LayeredReadout) (k : layered_readout_of r ≡ layered_read_reply o)
+module _ (o : LayeredRead) (is is' : List ℕ) (xs xs' : List ℤ) (cs cs' : List ℕ) (r : Result Ro.Readout Rf.LayerRefusal) (k : layered_readout_of r ≡ layered_read_reply o)
     (ki : is' ≡ layered_read_after pair_id o is) (kx : xs' ≡ layered_read_after pair_value o xs) (kc : cs' ≡ layered_read_after pair_column o cs) where
   pub layered_readout_kept : (layer : Layer) (why w : ℕ) → layered_readout_of r ≡ refused_count layer why w → (is' ≡ is) × (xs' ≡ xs) × (cs' ≡ cs)
   unfolding layered_read_after

@@ -2,7 +2,6 @@
 -- and with any targets, each handed the cursor that the one before gave back: what one call promises (asking.rt, opened.rt) gives the whole sequence.
 -- Assumes nothing.
 use Rattle.format.specs.Kit.{◌≡◌, refl, ap, ap₂, ◌∙◌, List, [], ◌∷◌, map, ℕ}
-use Rattle.format.specs.Next as Nx
 use Rattle.format.specs.Next.{list_next, in_sequence}
 use Rattle.answers.specs.Replies.{candidate_of}
 use Rattle.answers.specs.declared.Next.{Next}

@@ -1,12 +1,11 @@
 -- Each call of specs/Tables.antt answers by its table, on every input. Assumes nothing.
-use Rattle.format.specs.Kit.{◌≡◌, refl, sym, ap, ◌∙◌, subst, List, [], ◌∷◌, Option, none, some, ℕ, zero, suc, ◌≤◌, arith, ℤ, leb, eqb, leb-true}
-use Rattle.format.specs.Kit.{leb-false, drop, eqb-true, eqb-false}
+use Rattle.format.specs.Kit.{◌≡◌, refl, sym, ap, ◌∙◌, subst, List, [], ◌∷◌, Option, ℕ, ◌≤◌, ℤ, leb, eqb, leb-true}
+use Rattle.format.specs.Kit.{leb-false, eqb-true, eqb-false}
 use Rattle.format.specs.Limits.{max_id}
-use Rattle.format.specs.Refusals.{Outcome, done, refused, and_then, need, given, SHORT, NUMBER, EDITION, HEADER, LENGTH, DAMAGED}
-use Rattle.format.specs.HeaderNumbers.{Got, got, short, bad, read_number, got_at, number_at, numbers_at}
+use Rattle.format.specs.Refusals.{Outcome, done, refused, and_then, need, SHORT, NUMBER, EDITION, HEADER, LENGTH, DAMAGED}
 use Rattle.format.specs.Pairs.{Below}
-use Rattle.format.specs.Editions.{Edition, runs, number_of, editions, edition_in, among}
-use Rattle.format.specs.Opening.{Opened, head_from, head_ok, length_ok, open_column}
+use Rattle.format.specs.Editions.{runs, number_of, editions, among}
+use Rattle.format.specs.Opening.{Opened, head_ok, length_ok, open_column}
 use Rattle.format.specs.LookUp.{Look, found, absent, halved, steps, look_up, look_up_in}
 use Rattle.format.specs.Next.{Candidate, next_steps, new_cursor, next_in}
 use Rattle.format.specs.FirstBetween.{between_steps, first_between, first_between_in}
@@ -17,11 +16,9 @@ use Rattle.format.specs.Layered.{LayeredLook, found_in, absent_in, refused_by, o
 use Rattle.format.specs.LayeredReading.{next_of_both, layered_steps, both_then, read_to, read_layered_in}
 use Rattle.format.specs.SetCalls.{set_check, set_find}
 use Rattle.laws.proofs.Cases.{true_or, false_true}
-use Rattle.laws.proofs.Tests.{stopped}
 use Rattle.laws.proofs.Editions.{one_number}
 use Rattle.laws.proofs.Layered as Ld
 use Rattle.set_format.proofs.Demands.{accepts_sets, checked_finds, refused_alike}
-use Rattle.laws.proofs.PassedOn.{number_exactly, short_exactly}
 use Rattle.laws.proofs.RefusalNumbers.{set_check_refusals}
 use Rattle.set_format.proofs.Faults.{check_number, check_short, check_damaged}
 use Rattle.laws.proofs.LayeredCalls.{start_in}

@@ -23,26 +23,27 @@ use Rattle.laws.proofs.Demands.{told, written_told, reads_columns_all}
 use Rattle.set_format.proofs.Demands as Sd
 use Rattle.format.specs.Lists.{SetOf}
 use Rattle.answers.specs.Replies.{reply_of}
-use Rattle.answers.specs.declared.Reply.{Reply}
 use Rattle.format.specs.Says.{Within, ListSays, WriteSays, PlannedSays, PlanSays}
 use Rattle.laws.proofs.WritersSay.{write_exactly, planned_exactly, plan_exactly, seventeen_exactly}
 use Rattle.demands.specs.Terms.{Allowed, column_in, Writes, Holds}
 use Rattle.demands.proofs.Replies.{reply_refused, output_put, puts}
 use Rattle.demands.proofs.Lists.{as_read}
+use Rattle.std.specs.declared.result.Result.{Result}
+use Rattle.answers.specs.declared.Refusal as Re
 
 -- ---- exactly the bytes, whenever there is room: by each writer's table
 
 in_limits : (p : ℕ) (ids : List ℕ) (vs : List ℤ) → Allowed p ids vs → Within p ids
 in_limits p ids vs a = record { power = a.power; ascending = a.ascending; range = a.within }
 
-pub write_writes : (k p : ℕ) (ids : List ℕ) (vs : List ℤ) (out out' : List ℕ) (r : Reply) → reply_of r ≡ write_reply (write k p ids vs (length out))
+pub write_writes : (k p : ℕ) (ids : List ℕ) (vs : List ℤ) (out out' : List ℕ) (r : Result ℕ Re.Refusal) → reply_of r ≡ write_reply (write k p ids vs (length out))
     → out' ≡ write_out (write k p ids vs (length out)) out → (ed : Edition) → k ≡ number_of ed → Allowed p ids vs → Writes (column_in ed p ids vs) out out' r
 write_writes k p ids vs out out' r kept after ed e a =
     puts (column_in ed p ids vs) out out' r _ kept after
     (λ h. (write_exactly k p ids vs (length out) _).1 (WriteSays.in_edition a.one_value_each ed e (ListSays.written (in_limits p ids vs a) refl h refl)))
     (λ h. (write_exactly k p ids vs (length out) _).1 (WriteSays.in_edition a.one_value_each ed e (ListSays.no_room (in_limits p ids vs a) refl h refl)))
 
-pub planned_writes : (p : ℕ) (ids : List ℕ) (vs us : List ℤ) (out out' : List ℕ) (r : Reply)
+pub planned_writes : (p : ℕ) (ids : List ℕ) (vs us : List ℤ) (out out' : List ℕ) (r : Result ℕ Re.Refusal)
     → reply_of r ≡ write_reply (write_planned p ids vs us (length out)) → out' ≡ write_out (write_planned p ids vs us (length out)) out
     → Allowed p ids vs → plan_ok us vs ≡ true → Writes (column (plan_edition us) p ids vs) out out' r
 planned_writes p ids vs us out out' r kept after a t =
@@ -50,7 +51,7 @@ planned_writes p ids vs us out out' r kept after a t =
     (λ h. (planned_exactly p ids vs us (length out) _).1 (PlannedSays.by_plan a.one_value_each (ListSays.written (in_limits p ids vs a) t h refl)))
     (λ h. (planned_exactly p ids vs us (length out) _).1 (PlannedSays.by_plan a.one_value_each (ListSays.no_room (in_limits p ids vs a) t h refl)))
 
-pub set_writes : (ids out out' : List ℕ) (r : Reply) → reply_of r ≡ write_reply (set_write ids (length out)) → out' ≡ write_out (set_write ids (length out)) out
+pub set_writes : (ids out out' : List ℕ) (r : Result ℕ Re.Refusal) → reply_of r ≡ write_reply (set_write ids (length out)) → out' ≡ write_out (set_write ids (length out)) out
     → ValidIds ids → Writes (set_bytes ids) out out' r
 set_writes ids out out' r kept after ok =
     puts (set_bytes ids) out out' r _ kept after (λ h. Sd.written ids ok (length out) h) (λ h. Sd.no_room ids ok (length out) h)
@@ -77,7 +78,7 @@ pub told_edition : (k p : ℕ) (ids : List ℕ) (vs : List ℤ) (room : ℕ) (b 
 unfolding write
 told_edition k p ids vs room b e = let t = passed _ _ b (needed _ _ _ _ b e).1 in (t.0, t.2)
 
-abbrev pub wrote_holds : (k p : ℕ) (ids : List ℕ) (vs : List ℤ) (out out' : List ℕ) (r : Reply)
+abbrev pub wrote_holds : (k p : ℕ) (ids : List ℕ) (vs : List ℤ) (out out' : List ℕ) (r : Result ℕ Re.Refusal)
     → reply_of r ≡ write_reply (write k p ids vs (length out)) → out' ≡ write_out (write k p ids vs (length out)) out
     → (n : ℕ) → Each Fits vs → reply_of r ≡ done n → Holds (take n out') (length ids)
 wrote_holds k p ids vs out out' r kept after n fit e =
@@ -85,7 +86,7 @@ wrote_holds k p ids vs out out' r kept after n fit e =
     let t = told_edition k p ids vs (length out) b.0 b.1 in
     as_column (chosen t.0 vs) p ids vs (length out) b.0 fit t.1 _ b.2
 
-abbrev pub planned_holds : (p : ℕ) (ids : List ℕ) (vs us : List ℤ) (out out' : List ℕ) (r : Reply)
+abbrev pub planned_holds : (p : ℕ) (ids : List ℕ) (vs us : List ℤ) (out out' : List ℕ) (r : Result ℕ Re.Refusal)
     → reply_of r ≡ write_reply (write_planned p ids vs us (length out)) → out' ≡ write_out (write_planned p ids vs us (length out)) out
     → (n : ℕ) → Each Fits vs → reply_of r ≡ done n → Holds (take n out') (length ids)
 planned_holds p ids vs us out out' r kept after n fit e =
@@ -93,7 +94,7 @@ planned_holds p ids vs us out out' r kept after n fit e =
     let t = planned_taken p ids vs us (length out) b.0 b.1 in
     as_column (plan_edition us) p ids vs (length out) b.0 fit (sym (planned_write p ids vs us (length out) t) ∙ b.1) _ b.2
 
-abbrev pub wrote_a_set : (ids out out' : List ℕ) (r : Reply) → reply_of r ≡ write_reply (set_write ids (length out))
+abbrev pub wrote_a_set : (ids out out' : List ℕ) (r : Result ℕ Re.Refusal) → reply_of r ≡ write_reply (set_write ids (length out))
     → out' ≡ write_out (set_write ids (length out)) out → (n : ℕ) → reply_of r ≡ done n → (bytes : List ℕ) → bytes ≡ take n out' → SetOf bytes (length ids)
 wrote_a_set ids out out' r kept after n e bytes same =
     let b = output_put out out' r _ kept after n e in
@@ -115,7 +116,7 @@ one_set bytes m n x y = Sd.one_list x.ids y.ids x.valid y.valid (x.same_bytes �
 
 -- ---- plans
 
-pub seventeen : (p : ℕ) (ids : List ℕ) (vs us : List ℤ) (room : ℕ) (r : Reply) → reply_of r ≡ write_reply (write_planned p ids vs us room) → (w : ℕ)
+pub seventeen : (p : ℕ) (ids : List ℕ) (vs us : List ℤ) (room : ℕ) (r : Result ℕ Re.Refusal) → reply_of r ≡ write_reply (write_planned p ids vs us room) → (w : ℕ)
     → (reply_of r ≡ refused PLAN w) ↔ ((length ids ≡ length vs) × Within p ids × (plan_ok us vs ≡ false) × (w ≡ 0))
 unfolding write_reply
 seventeen p ids vs us room r kept w =
@@ -123,7 +124,7 @@ seventeen p ids vs us room r kept w =
     (λ e. s.0 (reply_refused _ PLAN w (sym kept ∙ e)), λ t. kept ∙ ap write_reply (s.1 t))
 
 -- what was proposed is never refused with 17, for any list of values
-pub proposed_taken : (p : ℕ) (ids : List ℕ) (vs us : List ℤ) (room : ℕ) (r : Reply) → us ≡ planned vs → reply_of r ≡ write_reply (write_planned p ids vs us room)
+pub proposed_taken : (p : ℕ) (ids : List ℕ) (vs us : List ℤ) (room : ℕ) (r : Result ℕ Re.Refusal) → us ≡ planned vs → reply_of r ≡ write_reply (write_planned p ids vs us room)
     → (w : ℕ) → reply_of r ≡ refused PLAN w → ⊥
 proposed_taken p ids vs us room r e kept w f =
     false_true (sym ((seventeen p ids vs us room r kept w).0 f).2 ∙ ap (λ (l : List ℤ). plan_ok l vs) e ∙ planned_passes vs)
@@ -132,7 +133,7 @@ few_values : (p : ℕ) (ids : List ℕ) (vs : List ℤ) → Allowed p ids vs →
 few_values p ids vs a = omega (arith, a.one_value_each, asc_length 0 2147352576 ids zero-le a.ascending a.within)
 
 -- and the bytes are those of edition 4
-pub proposed_writes : (p : ℕ) (ids : List ℕ) (vs us : List ℤ) (out out' : List ℕ) (r : Reply) → us ≡ planned vs
+pub proposed_writes : (p : ℕ) (ids : List ℕ) (vs us : List ℤ) (out out' : List ℕ) (r : Result ℕ Re.Refusal) → us ≡ planned vs
     → reply_of r ≡ write_reply (write_planned p ids vs us (length out)) → out' ≡ write_out (write_planned p ids vs us (length out)) out
     → Allowed p ids vs → Writes (column_in table p ids vs) out out' r
 proposed_writes p ids vs us out out' r e kept after a =
@@ -145,7 +146,7 @@ none_else : (l vs : List ℤ) → plan_ok l vs ≡ true → ((u : ℤ) (us : Lis
 none_else [] vs t f = refl
 none_else (u ∷ us) vs t f = false_true (sym (f u us) ∙ t)
 
-module _ (vs lent lent' : List ℤ) (q : Reply) (kept : reply_of q ≡ write_reply (plan vs (length lent)))
+module _ (vs lent lent' : List ℤ) (q : Result ℕ Re.Refusal) (kept : reply_of q ≡ write_reply (plan vs (length lent)))
     (after : lent' ≡ write_out (plan vs (length lent)) lent) where
   given : 256 ≤ length lent → plan vs (length lent) ≡ done (planned vs)
   given h = (plan_exactly vs (length lent) (done (planned vs))).1 (PlanSays.proposed h refl)
@@ -219,7 +220,7 @@ pub first_places : {A : Type 0} (n : ℕ) (l rest buffer : List A) → length l 
 first_places n l rest buffer e b = ap (take n) b ∙ take_at l rest n e
 
 -- what the code on the way asks: the buffers had room, and both numbers are small
-pub read_room : (bytes : List ℕ) (i v : ℕ) (r : Reply) → reply_of r ≡ read_reply (reading editions bytes i v) → (n : ℕ) → reply_of r ≡ done n
+pub read_room : (bytes : List ℕ) (i v : ℕ) (r : Result ℕ Re.Refusal) → reply_of r ≡ read_reply (reading editions bytes i v) → (n : ℕ) → reply_of r ≡ done n
     → (n ≤ i) × (n ≤ v)
 unfolding read_reply
 read_room bytes i v r kept n e = go (reading editions bytes i v) refl

@@ -7,11 +7,13 @@ use Rattle.format.specs.LayeredPage.{layered_ordinal, layered_value, layered_kin
 use Rattle.format.specs.LayeredPage.{machine_formula, correction_formula}
 use Rattle.format.specs.Says.{LayeredPageSays}
 use Rattle.layered.specs.Answers.{layered_reply_of}
-use Rattle.layered.specs.declared.LayeredReply.{LayeredReply}
 use Rattle.demands.specs.Terms.{Holds, pairs_of}
+use Rattle.std.specs.declared.result.Result.{Result}
+use Rattle.answers.specs.declared.Refusal as Re
+use Rattle.layered.specs.declared.LayeredWords as Lw
 
 -- the outcome of the case that the table has for the input, where `look` is the single layered look-up
-pub record LayeredPageTold (look : ℕ → LayeredLook) (ids os os' : List ℕ) (vs vs' : List ℤ) (ks ks' cs cs' : List ℕ) (r : LayeredReply) : Type 0 where
+pub record LayeredPageTold (look : ℕ → LayeredLook) (ids os os' : List ℕ) (vs vs' : List ℤ) (ks ks' cs cs' : List ℕ) (r : Result Lw.LayeredWords Re.Refusal) : Type 0 where
   pub outcome : Outcome (List LayeredLook)
   pub says : LayeredPageSays look ids (length os) (length vs) (length ks) (length cs) outcome
   pub reply : layered_reply_of r ≡ layered_reply outcome
@@ -23,7 +25,7 @@ pub record LayeredPageTold (look : ℕ → LayeredLook) (ids os os' : List ℕ) 
 -- on bytes that hold lists: the sums of the words by the formula, each column's by its own list and rank power, and in each place the two lists' answer for
 -- its id, the correction's pair winning, ids above the limit included
 pub record LayeredPageAnswers {m c : List ℕ} {i j : ℕ} (x : Holds m i) (y : Holds c j) (ids os os' : List ℕ) (vs vs' : List ℤ) (ks ks' cs cs' : List ℕ)
-    (r : LayeredReply) : Type 0 where
+    (r : Result Lw.LayeredWords Re.Refusal) : Type 0 where
   pub words : layered_reply_of r
       ≡ done (sum_of (machine_formula x.power (pairs_of x) (pairs_of y)) ids % 2 ^ 64, sum_of (correction_formula y.power (pairs_of y)) ids % 2 ^ 64)
   pub ordinals : os' ≡ layered_after layered_ordinal (done (map (lists_place x.power (pairs_of x) y.power (pairs_of y)) ids)) os

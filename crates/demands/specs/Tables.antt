@@ -2,12 +2,11 @@
 -- range, looks into two columns or into a set, all that it can answer, a line for each case, in the order of its tests, with the number that goes
 -- with a refusal. (The other calls' tables stand beside the documents' definitions.) Assumes nothing.
 use Rattle.std.specs.Prelude.{◌≡◌, ◌∷◌, ◌+◌, ◌≤◌, ◌<◌}
-use Rattle.format.specs.Kit.{true, false, List, [], Option, none, some, ℕ, ℤ}
+use Rattle.format.specs.Kit.{true, false, List, [], Option, ℕ, ℤ}
 use Rattle.format.specs.Limits.{max_id}
 use Rattle.format.specs.Refusals.{Outcome, done, refused, SHORT, NUMBER, EDITION, HEADER, LENGTH, DAMAGED, ID, BACK}
-use Rattle.format.specs.HeaderNumbers.{number_at, numbers_at}
-use Rattle.format.specs.Editions.{Edition, runs, editions, edition_in}
-use Rattle.format.specs.Opening.{Opened, head_from, head_ok, length_ok, open_column}
+use Rattle.format.specs.Editions.{runs, editions}
+use Rattle.format.specs.Opening.{Opened, head_ok, length_ok, open_column}
 use Rattle.format.specs.LookUp.{Look, found, absent, halved, steps}
 use Rattle.format.specs.Next.{Candidate, next_steps, new_cursor, next_in}
 use Rattle.format.specs.FirstBetween.{between_steps}

@@ -20,38 +20,39 @@ use Rattle.format.specs.Next.{last_after, list_next}
 use Rattle.format.specs.ReadFrom.{Readout, readout_reply, readout_after, list_read_from}
 use Rattle.format.specs.LayeredReading.{LayeredRead, pair_id, pair_value, pair_column, layered_read_reply, layered_read_after, lists_read}
 use Rattle.answers.specs.Replies.{reply_of, answer_of, candidate_of, readout_of, Probed}
-use Rattle.answers.specs.declared.Reply.{Reply}
-use Rattle.answers.specs.declared.Answer as An
-use Rattle.answers.specs.declared.Answer.{Answer}
 use Rattle.answers.specs.declared.Next.{Next}
 use Rattle.answers.specs.declared.Readout as Ro
 use Rattle.layered.specs.Answers.{layered_readout_of}
-use Rattle.layered.specs.declared.LayeredReadout as Lr
 use Rattle.format.specs.Faults.{BrokenAt, EndsAt}
 use Rattle.format.specs.Says.{ReadSays, PageSays}
+use Rattle.std.specs.Prelude.{Ok, Err}
+use Rattle.std.specs.declared.result.Result.{Result}
+use Rattle.answers.specs.declared.Refusal as Re
+use Rattle.answers.specs.declared.Look as Lk
+use Rattle.layered.specs.declared.LayerRefusal as Rf
 
 -- ---- demand 1
 
 -- whatever refusal a reply is, this holds then
-abbrev pub IfRefused : Reply → Type 0 → Type 0
+abbrev pub IfRefused : Result ℕ Re.Refusal → Type 0 → Type 0
 IfRefused r P = (why w : ℕ) → reply_of r ≡ refused why w → P
 
 -- a call that is lent l and leaves l' answers r: the outcome of the case that its table has for the input
-pub record Told {A : Type 0} (Says : Outcome (List A) → Type 0) (l l' : List A) (r : Reply) : Type 0 where
+pub record Told {A : Type 0} (Says : Outcome (List A) → Type 0) (l l' : List A) (r : Result ℕ Re.Refusal) : Type 0 where
   pub outcome : Outcome (List A)
   pub says : Says outcome
   pub reply : reply_of r ≡ write_reply outcome
   pub after : l' ≡ write_out outcome l
 
 -- the same of the full reading, and of a page of ids
-pub record ReadTold (bytes is is' : List ℕ) (xs xs' : List ℤ) (r : Reply) : Type 0 where
+pub record ReadTold (bytes is is' : List ℕ) (xs xs' : List ℤ) (r : Result ℕ Re.Refusal) : Type 0 where
   pub outcome : Outcome Pairs
   pub says : ReadSays editions bytes (length is) (length xs) outcome
   pub reply : reply_of r ≡ read_reply outcome
   pub ids_after_is : is' ≡ ids_after outcome is
   pub values_after_is : xs' ≡ values_after outcome xs
 
-pub record PageTold (bytes ids os os' : List ℕ) (vs vs' : List ℤ) (ks ks' : List ℕ) (r : Reply) : Type 0 where
+pub record PageTold (bytes ids os os' : List ℕ) (vs vs' : List ℤ) (ks ks' : List ℕ) (r : Result ℕ Re.Refusal) : Type 0 where
   pub outcome : Outcome (List (Outcome Look))
   pub says : PageSays editions bytes ids (length os) (length vs) (length ks) outcome
   pub reply : reply_of r ≡ page_reply outcome
@@ -60,7 +61,7 @@ pub record PageTold (bytes ids os os' : List ℕ) (vs vs' : List ℤ) (ks ks' : 
   pub kinds_after : ks' ≡ page_after place_kind outcome ks
 
 -- and of pairs from an id on
-pub record ReadFromTold (Says : Outcome Readout → Type 0) (is is' : List ℕ) (xs xs' : List ℤ) (r : Ro.Readout) : Type 0 where
+pub record ReadFromTold (Says : Outcome Readout → Type 0) (is is' : List ℕ) (xs xs' : List ℤ) (r : Result Ro.Readout Re.Refusal) : Type 0 where
   pub outcome : Outcome Readout
   pub says : Says outcome
   pub reply : readout_of r ≡ readout_reply outcome
@@ -68,7 +69,7 @@ pub record ReadFromTold (Says : Outcome Readout → Type 0) (is is' : List ℕ) 
   pub values_after_is : xs' ≡ readout_after (λ w. w.values) outcome xs
 
 -- and of those of two columns
-pub record LayeredReadTold (Says : LayeredRead → Type 0) (is is' : List ℕ) (xs xs' : List ℤ) (cs cs' : List ℕ) (r : Lr.LayeredReadout) : Type 0 where
+pub record LayeredReadTold (Says : LayeredRead → Type 0) (is is' : List ℕ) (xs xs' : List ℤ) (cs cs' : List ℕ) (r : Result Ro.Readout Rf.LayerRefusal) : Type 0 where
   pub outcome : LayeredRead
   pub says : Says outcome
   pub reply : layered_readout_of r ≡ layered_read_reply outcome
@@ -96,7 +97,7 @@ abbrev pub column_in : Edition → ℕ → List ℕ → List ℤ → List ℕ
 column_in ed p ids vs = column (chosen ed vs) p ids vs
 
 -- a writer that answers r and leaves out' of the output gives exactly these bytes whenever the output has room, and else ROOM with their count
-pub record Writes (bytes out out' : List ℕ) (r : Reply) : Type 0 where
+pub record Writes (bytes out out' : List ℕ) (r : Result ℕ Re.Refusal) : Type 0 where
   pub room : length bytes ≤ length out → (reply_of r ≡ done (length bytes)) × (out' ≡ bytes ++ drop (length bytes) out)
   pub no_room : length out < length bytes → (reply_of r ≡ refused ROOM (length bytes)) × (out' ≡ out)
 
@@ -122,13 +123,13 @@ pub record Same {bytes : List ℕ} {m n : ℕ} (x : Holds bytes m) (y : Holds by
   pub values : x.values ≡ y.values
 
 -- buffers is and xs of n places or more have afterwards, in is' and xs', these ids and values, and what was there after n
-pub record Filled (ids : List ℕ) (vs : List ℤ) (is is' : List ℕ) (xs xs' : List ℤ) (r : Reply) : Type 0 where
+pub record Filled (ids : List ℕ) (vs : List ℤ) (is is' : List ℕ) (xs xs' : List ℤ) (r : Result ℕ Re.Refusal) : Type 0 where
   pub count : reply_of r ≡ done (length ids)
   pub ids_there : is' ≡ ids ++ drop (length ids) is
   pub values_there : xs' ≡ vs ++ drop (length ids) xs
 
 -- of these ids and values: what a writer wrote, the check accepted and the reading gave back
-pub record ComesBack (ids : List ℕ) (vs : List ℤ) (is is' : List ℕ) (xs xs' : List ℤ) (wrote checked read : Reply) : Type 0 where
+pub record ComesBack (ids : List ℕ) (vs : List ℤ) (is is' : List ℕ) (xs xs' : List ℤ) (wrote checked read : Result ℕ Re.Refusal) : Type 0 where
   pub checks : (n : ℕ) → reply_of wrote ≡ done n → reply_of checked ≡ done (length ids)
   pub reads : (n : ℕ) → reply_of wrote ≡ done n → length ids ≤ length is → length ids ≤ length xs → Filled ids vs is is' xs xs' read
   pub refused : (why w : ℕ) → reply_of wrote ≡ refused why w → (is' ≡ is) × (xs' ≡ xs)
@@ -141,13 +142,13 @@ pub record WordsBound (p w : ℕ) : Type 0 where
   pub without_ranks : p ≡ 0 → w ≤ 1024
 
 -- at most 12 probes are told (document 02, [8])
-abbrev pub FewProbes : Answer → Type 0
-FewProbes (An.Answer.Found o v w n) = n ≤ 12
-FewProbes (An.Answer.Absent w n) = n ≤ 12
-FewProbes (An.Answer.Refused why) = Unit
+abbrev pub FewProbes : Result Lk.Look Re.Refusal → Type 0
+FewProbes (Ok (Lk.Look.Found o v w n)) = n ≤ 12
+FewProbes (Ok (Lk.Look.Absent w n)) = n ≤ 12
+FewProbes (Err why) = Unit
 
 -- the answer of a look-up for an id, by the bytes' list
-pub record Answers {bytes : List ℕ} {n : ℕ} (x : Holds bytes n) (id : ℕ) (a : Answer) : Type 0 where
+pub record Answers {bytes : List ℕ} {n : ℕ} (x : Holds bytes n) (id : ℕ) (a : Result Lk.Look Re.Refusal) : Type 0 where
   -- no refusal; found exactly if listed, with the number of listed ids below, the value written with it and the words of the formula
   pub by_list : answer_of a ≡ done (list_answer x.power x.ids x.values id)
   -- the walk over all blocks answers alike
@@ -175,7 +176,7 @@ abbrev pub asked : {bytes : List ℕ} {n : ℕ} → Holds bytes n → ℕ → Ou
 asked x id = need (leb id max_id) ID 0 (done (list_answer x.power x.ids x.values id))
 
 -- a page of ids (document 02, [3]): the reply is the sum of their words by the formula, and each place what a look-up of its id answers by the list
-pub record PageAnswers {bytes : List ℕ} {n : ℕ} (x : Holds bytes n) (ids os os' : List ℕ) (vs vs' : List ℤ) (ks ks' : List ℕ) (r : Reply) : Type 0 where
+pub record PageAnswers {bytes : List ℕ} {n : ℕ} (x : Holds bytes n) (ids os os' : List ℕ) (vs vs' : List ℤ) (ks ks' : List ℕ) (r : Result ℕ Re.Refusal) : Type 0 where
   pub words : reply_of r ≡ done (page_words (map (asked x) ids) % 2 ^ 64)
   pub ordinals : os' ≡ page_after place_ordinal (done (map (asked x) ids)) os
   pub values : vs' ≡ page_after place_value (done (map (asked x) ids)) vs
@@ -188,14 +189,14 @@ pub record NextAnswers {bytes : List ℕ} {n : ℕ} (x : Holds bytes n) (last t 
 
 -- pairs from an id on: in the first places the list's own, in order, as many as there is room for, and what was there after them; ended exactly where
 -- no more are left
-pub record ReadFromAnswers {bytes : List ℕ} {n : ℕ} (x : Holds bytes n) (t : ℕ) (is is' : List ℕ) (xs xs' : List ℤ) (r : Ro.Readout) : Type 0 where
+pub record ReadFromAnswers {bytes : List ℕ} {n : ℕ} (x : Holds bytes n) (t : ℕ) (is is' : List ℕ) (xs xs' : List ℤ) (r : Result Ro.Readout Re.Refusal) : Type 0 where
   pub reply : readout_of r ≡ readout_reply (list_read_from (pairs_of x) t (min (length is) (length xs)))
   pub ids : is' ≡ readout_after (λ w. w.ids) (list_read_from (pairs_of x) t (min (length is) (length xs))) is
   pub values : xs' ≡ readout_after (λ w. w.values) (list_read_from (pairs_of x) t (min (length is) (length xs))) xs
 
 -- pairs of both columns from an id on: those of the two lists as one, in which the correction's pair wins, with the column of each
 pub record LayeredReadAnswers {m c : List ℕ} {i j : ℕ} (x : Holds m i) (y : Holds c j) (t : ℕ) (is is' : List ℕ) (xs xs' : List ℤ) (cs cs' : List ℕ)
-    (r : Lr.LayeredReadout) : Type 0 where
+    (r : Result Ro.Readout Rf.LayerRefusal) : Type 0 where
   pub reply : layered_readout_of r ≡ layered_read_reply (lists_read (pairs_of x) (pairs_of y) t (min (length cs) (min (length is) (length xs))))
   pub ids : is' ≡ layered_read_after pair_id (lists_read (pairs_of x) (pairs_of y) t (min (length cs) (min (length is) (length xs)))) is
   pub values : xs' ≡ layered_read_after pair_value (lists_read (pairs_of x) (pairs_of y) t (min (length cs) (min (length is) (length xs)))) xs

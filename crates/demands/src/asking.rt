@@ -11,7 +11,7 @@ ghost use Rattle.format.specs.Says.{NextSays};
 ghost use Rattle.demands.specs.Terms.{IfRefused, PageTold, HeaderTold, Holds, PageAnswers, NextAnswers};
 ghost use Rattle.demands.specs.Tables.{BetweenSays};
 
-use answers::{Between, Cursor, Next, Reply};
+use answers::{Cursor, Next, Refusal};
 
 // BUFFER with the number of ids, before a byte is read and whatever the bytes are. On bytes that hold a list the sum of the words by the formula, and in each
 // place what a look-up of its id answers by the list, ids above the limit included.
@@ -21,7 +21,7 @@ pub fn look_up_page(
     ordinals: &mut [u64],
     values: &mut [i64],
     kinds: &mut [u8],
-) -> Reply
+) -> Result<u64, Refusal>
     ensures says { PageTold bytes.now ids.now ordinals.old ordinals.new values.old values.new
         kinds.old kinds.new result }
     ensures refused { IfRefused result ((ordinals.new ≡ ordinals.old) × (values.new ≡ values.old)
@@ -52,7 +52,7 @@ pub fn next(cursor: Cursor, bytes: &[u8], target: u32) -> Next
 }
 
 // In a column of edition 3 the plain scan of its list, in any other EDITION.
-pub fn first_between(bytes: &[u8], low: i64, high: i64) -> Between
+pub fn first_between(bytes: &[u8], low: i64, high: i64) -> Result<Option<u64>, Refusal>
     ensures says { BetweenSays bytes.now low high (between_of result) }
     ensures header { HeaderTold (runs ∷ []) bytes.now (Unit {0}) (λ why w. between_of result ≡ refused why w) }
     ensures scans { (n : ℕ) (x : Holds bytes.now n) → x.edition ≡ runs → between_of result ≡ done (first_in low high 0 x.values) }

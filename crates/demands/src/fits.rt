@@ -7,9 +7,7 @@ fn look_at(_value: i64) {}
 pub fn each_fits(values: &[i64])
     ensures { Each Fits values.now }
 {
-    let mut i = 0;
-    while i < values.len() {
+    for i in 0..values.len() {
         look_at(values[i]);
-        i += 1;
     }
 }

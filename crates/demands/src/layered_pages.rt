@@ -9,8 +9,9 @@ ghost use Rattle.column.specs.Opened.{column_of};
 ghost use Rattle.demands.specs.Terms.{Holds};
 ghost use Rattle.demands.specs.LayeredTerms.{LayeredPageTold, LayeredPageAnswers};
 
-use column::{Column, Opening};
-use layered::LayeredReply;
+use answers::Refusal;
+use column::Column;
+use layered::LayeredWords;
 
 // BUFFER with the number of ids, before a byte is read and whatever the bytes are. On bytes that hold lists the sums of the words by the formula, and in
 // each place the two lists' answer for its id, ids above the limit included.
@@ -22,7 +23,7 @@ pub fn look_up_layered_page(
     values: &mut [i64],
     kinds: &mut [u8],
     columns: &mut [u8],
-) -> LayeredReply
+) -> Result<LayeredWords, Refusal>
     ensures says { LayeredPageTold (look_up_layered editions below.now above.now) ids.now ordinals.old
         ordinals.new values.old values.new kinds.old kinds.new columns.old
         columns.new result }
@@ -49,7 +50,7 @@ pub fn look_up_layered_page_in(
     values: &mut [i64],
     kinds: &mut [u8],
     columns: &mut [u8],
-) -> LayeredReply
+) -> Result<LayeredWords, Refusal>
     ensures says { LayeredPageTold (look_up_layered_in below.now (column_of lower) above.now (column_of upper)) ids.now
         ordinals.old ordinals.new values.old values.new kinds.old kinds.new
         columns.old columns.new result }
@@ -71,22 +72,16 @@ pub fn open_then_look_up_layered_page(
     values: &mut [i64],
     kinds: &mut [u8],
     columns: &mut [u8],
-) -> LayeredReply
+) -> Result<LayeredWords, Refusal>
     ensures { length ids.now ≤ length ordinals.old → length ids.now ≤ length values.old
         → length ids.now ≤ length kinds.old → length ids.now ≤ length columns.old
         → (i j : ℕ) (x : Holds machine.now i) (y : Holds correction.now j)
         → LayeredPageAnswers x y ids.now ordinals.old ordinals.new values.old values.new
         kinds.old kinds.new columns.old columns.new result }
 {
-    let below = Column::open(machine);
-    let above = Column::open(correction);
-    match below {
-        Opening::Refused(why) => LayeredReply::Refused(why),
-        Opening::Open(lower) => match above {
-            Opening::Refused(why) => LayeredReply::Refused(why),
-            Opening::Open(upper) => signalfern::look_up_layered_page_in(
-                lower, machine, upper, correction, ids, ordinals, values, kinds, columns,
-            ),
-        },
-    }
+    let lower = Column::open(machine)?;
+    let upper = Column::open(correction)?;
+    signalfern::look_up_layered_page_in(
+        lower, machine, upper, correction, ids, ordinals, values, kinds, columns,
+    )
 }

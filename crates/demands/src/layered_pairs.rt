@@ -13,8 +13,9 @@ ghost use Rattle.column.specs.Opened.{column_of};
 ghost use Rattle.demands.specs.Terms.{LayeredReadTold, HeaderTold, Holds, LayeredReadAnswers};
 ghost use Rattle.demands.specs.Tables.{LayeredReadInSays};
 
-use column::{Column, Opening};
-use layered::LayeredReadout;
+use answers::Readout;
+use column::Column;
+use layered::LayerRefusal;
 
 // Refused only where the very first candidate of a column is, the correction's first, and then nothing is changed. On bytes that hold lists the pairs of
 // both in the order of ids, the correction's where both list the id, with the column of each, as many as all three lists have places; ended exactly where
@@ -26,7 +27,7 @@ pub fn read_layered_from(
     ids: &mut [u32],
     values: &mut [i64],
     columns: &mut [u8],
-) -> LayeredReadout
+) -> Result<Readout, LayerRefusal>
     ensures says { LayeredReadTold (LayeredReadSays editions below.now above.now id
         (min (length columns.old) (min (length ids.old) (length values.old)))) ids.old ids.new
         values.old values.new columns.old columns.new result }
@@ -53,7 +54,7 @@ pub fn read_layered_from_in(
     ids: &mut [u32],
     values: &mut [i64],
     columns: &mut [u8],
-) -> LayeredReadout
+) -> Result<Readout, LayerRefusal>
     ensures says { LayeredReadTold (LayeredReadInSays below.now (column_of lower) above.now (column_of upper) id
         (min (length columns.old) (min (length ids.old) (length values.old)))) ids.old ids.new
         values.old values.new columns.old columns.new result }
@@ -72,7 +73,7 @@ pub fn open_then_read_layered_from(
     ids: &mut [u32],
     values: &mut [i64],
     columns: &mut [u8],
-) -> LayeredReadout
+) -> Result<Readout, LayerRefusal>
     ensures { (i j : ℕ) (x : Holds machine.now i) (y : Holds correction.now j)
         → LayeredReadAnswers x y id ids.old ids.new values.old values.new columns.old
         columns.new result }
@@ -80,10 +81,16 @@ pub fn open_then_read_layered_from(
     let below = Column::open(machine);
     let above = Column::open(correction);
     match below {
-        Opening::Refused(why) => LayeredReadout::Refused(layered::Layer::Machine, why),
-        Opening::Open(lower) => match above {
-            Opening::Refused(why) => LayeredReadout::Refused(layered::Layer::Correction, why),
-            Opening::Open(upper) => signalfern::read_layered_from_in(
+        Err(why) => Err(LayerRefusal {
+            layer: layered::Layer::Machine,
+            why,
+        }),
+        Ok(lower) => match above {
+            Err(why) => Err(LayerRefusal {
+                layer: layered::Layer::Correction,
+                why,
+            }),
+            Ok(upper) => signalfern::read_layered_from_in(
                 lower, machine, upper, correction, id, ids, values, columns,
             ),
         },

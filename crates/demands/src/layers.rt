@@ -10,11 +10,11 @@ ghost use Rattle.layered.specs.Answers.{layered_of, part_of, words_in};
 ghost use Rattle.demands.specs.Terms.{HeaderTold, WordsBound, Holds, pairs_of, LayeredAnswers};
 ghost use Rattle.demands.specs.Tables.{LayeredSays, PartSays};
 
-use layered::Layered;
+use layered::{LayerRefusal, LayeredLook};
 
 // The correction's look-up decides, and the machine column's for an id that is absent there. On any bytes each column's words are within the bound of its
 // own rank power; on bytes that hold lists the answer is theirs and that of their walks.
-pub fn look_up_layered(below: &[u8], above: &[u8], id: u32) -> Layered
+pub fn look_up_layered(below: &[u8], above: &[u8], id: u32) -> Result<LayeredLook, LayerRefusal>
     ensures says { LayeredSays (look_up editions above.now id) (look_up editions below.now id) (layered_of result) }
     ensures top_header { HeaderTold editions above.now (id ≤ max_id) (λ why w. layered_of result ≡ refused_by correction why w) }
     ensures below_header { HeaderTold editions below.now ((k : ℕ) × (look_up editions above.now id ≡ done (absent k)))

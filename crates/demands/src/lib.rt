@@ -28,8 +28,8 @@ ghost use Rattle.format.specs.Says.{WriteSays, CheckSays, LookSays};
 ghost use Rattle.demands.specs.Terms.{IfRefused, Told, ReadTold, HeaderTold, Allowed, column_in, Writes, Holds, Same, Filled, ComesBack};
 ghost use Rattle.demands.specs.Terms.{WordsBound, FewProbes, Answers};
 
-use answers::{Answer, Refusal, Reply};
-use column::{Column, Opening};
+use answers::{Look, Refusal};
+use column::Column;
 
 mod asking;
 mod fits;
@@ -46,7 +46,13 @@ mod sets;
 
 // Demand 2: "The writer gives exactly the bytes that document 01 lays down, for each allowed rank power and each strictly ascending id list within the
 // limits with one value an id, whenever the output has room", and else ROOM with their count. What was in the output after them stays.
-pub fn write(ids: &[u32], values: &[i64], edition: u32, power: u32, out: &mut [u8]) -> Reply
+pub fn write(
+    ids: &[u32],
+    values: &[i64],
+    edition: u32,
+    power: u32,
+    out: &mut [u8],
+) -> Result<u64, Refusal>
     ensures says { Told (WriteSays edition power ids.now values.now (length out.old)) out.old out.new result }
     ensures refused { IfRefused result (out.new ≡ out.old) }
     ensures writes { (ed : Edition) → edition ≡ number_of ed → Allowed power ids.now values.now
@@ -57,7 +63,7 @@ pub fn write(ids: &[u32], values: &[i64], edition: u32, power: u32, out: &mut [u
 
 // ---- the check and the reading: demand 1
 
-pub fn check(bytes: &[u8]) -> Reply
+pub fn check(bytes: &[u8]) -> Result<u64, Refusal>
     ensures says { CheckSays editions bytes.now (reply_of result) }
     ensures header { HeaderTold editions bytes.now (Unit {0}) (λ why w. reply_of result ≡ refused why w) }
 {
@@ -65,7 +71,7 @@ pub fn check(bytes: &[u8]) -> Reply
 }
 
 // BUFFER with n after the header and before any id or value is judged.
-pub fn read(bytes: &[u8], ids: &mut [u32], values: &mut [i64]) -> Reply
+pub fn read(bytes: &[u8], ids: &mut [u32], values: &mut [i64]) -> Result<u64, Refusal>
     ensures says { ReadTold bytes.now ids.old ids.new values.old values.new result }
     ensures refused { IfRefused result ((ids.new ≡ ids.old) × (values.new ≡ values.old)) }
     ensures header { HeaderTold editions bytes.now (Unit {0}) (λ why w. reply_of result ≡ refused why w) }
@@ -76,8 +82,8 @@ pub fn read(bytes: &[u8], ids: &mut [u32], values: &mut [i64]) -> Reply
 // What the check and the reading answered.
 #[derive(Clone, Copy)]
 pub struct Back {
-    pub checked: Reply,
-    pub read: Reply,
+    pub checked: Result<u64, Refusal>,
+    pub read: Result<u64, Refusal>,
 }
 
 // Demand 2: "The check accepts exactly those bytes, and reading them into buffers of n places or more gives the same ids and values", and changes no
@@ -100,19 +106,19 @@ pub fn check_then_read(bytes: &[u8], ids: &mut [u32], values: &mut [i64]) -> Bac
 // What three calls answered; where the writer refused, that.
 #[derive(Clone, Copy)]
 pub struct Trip {
-    pub wrote: Reply,
-    pub checked: Reply,
-    pub read: Reply,
+    pub wrote: Result<u64, Refusal>,
+    pub checked: Result<u64, Refusal>,
+    pub read: Result<u64, Refusal>,
 }
 
 // What a writer left, checked and read back. (No writer tells more bytes than the output has; this function does not know that.)
-fn come_back(wrote: Reply, out: &[u8], ids: &mut [u32], values: &mut [i64]) -> Trip
+fn come_back(wrote: Result<u64, Refusal>, out: &[u8], ids: &mut [u32], values: &mut [i64]) -> Trip
     ensures same { result.wrote ≡ wrote }
     ensures back { (n m : ℕ) → reply_of wrote ≡ done n → n ≤ length out.now → (x : Holds (take n out.now) m)
         → ComesBack x.ids x.values ids.old ids.new values.old values.new wrote result.checked result.read }
     ensures refused { IfRefused wrote ((ids.new ≡ ids.old) × (values.new ≡ values.old)) }
 {
-    let Reply::Done(n) = wrote else {
+    let Ok(n) = wrote else {
         return Trip {
             wrote,
             checked: wrote,
@@ -156,22 +162,20 @@ pub fn write_then_check_then_read(
 }
 
 // And accepted bytes, read and written again in the edition and at the rank power that they have, come out as they were.
-pub fn read_then_write(bytes: &[u8], ids: &mut [u32], values: &mut [i64], out: &mut [u8]) -> Reply
+pub fn read_then_write(
+    bytes: &[u8],
+    ids: &mut [u32],
+    values: &mut [i64],
+    out: &mut [u8],
+) -> Result<u64, Refusal>
     ensures { (n : ℕ) (x : Holds bytes.now n) → n ≤ length ids.old → n ≤ length values.old
         → length bytes.now ≤ length out.old → (reply_of result ≡ done (length bytes.now))
         × (out.new ≡ bytes.now ++ drop (length bytes.now) out.old) }
 {
-    let read = signalfern::read(bytes, ids, values);
-    let Reply::Done(n) = read else {
-        return read;
-    };
-    let opening = Column::open(bytes);
-    let Opening::Open(opened) = opening else {
-        return Reply::Refused(Refusal::Damaged);
-    };
+    let n = signalfern::read(bytes, ids, values)?;
+    let opened = Column::open(bytes)?;
     let head = opened.head;
-    let edition: values::Edition = head.edition;
-    let number = column::number_of(edition) as u32;
+    let number = column::number_of(head.edition) as u32;
     let power = head.power as u32;
     let end = n as usize;
     signalfern::write(&ids[0..end], &values[0..end], number, power, out)
@@ -180,7 +184,7 @@ pub fn read_then_write(bytes: &[u8], ids: &mut [u32], values: &mut [i64], out: &
 // ---- the look-up: demand 1
 
 // On any bytes that are opened the words are at most 2 to the power p-6, or 1024 without ranks, and the probes at most 12.
-pub fn look_up(bytes: &[u8], id: u32) -> Answer
+pub fn look_up(bytes: &[u8], id: u32) -> Result<Look, Refusal>
     ensures says { LookSays editions bytes.now id (answer_of result) }
     ensures header { HeaderTold editions bytes.now (id ≤ max_id) (λ why w. answer_of result ≡ refused why w) }
     ensures words { (c : Opened) → open_column editions bytes.now ≡ done c → WordsBound c.head.power (place_words (answer_of result)) }
@@ -192,9 +196,9 @@ pub fn look_up(bytes: &[u8], id: u32) -> Answer
 // What the check, the look-up in the bytes and that in the opened column answered.
 #[derive(Clone, Copy)]
 pub struct Looked {
-    pub checked: Reply,
-    pub direct: Answer,
-    pub opened: Answer,
+    pub checked: Result<u64, Refusal>,
+    pub direct: Result<Look, Refusal>,
+    pub opened: Result<Look, Refusal>,
 }
 
 // Demand 3: "For all bytes that the check accepts and every id up to 2147352575, the look-up and the walk over all blocks answer alike. Both say found

@@ -16,20 +16,20 @@ ghost use Rattle.demands.specs.Terms.{WordsBound, FewProbes, Holds, Answers, Lay
 ghost use Rattle.format.specs.Says.{OpenSays};
 ghost use Rattle.demands.specs.Tables.{LookInSays, NextInSays, BetweenInSays, LayeredSays};
 
-use answers::{Answer, Between, Candidate, Cursor, Next};
-use column::{Column, Opening};
-use layered::{Layer, Layered};
+use answers::{Cursor, Look, Next, Refusal};
+use column::Column;
+use layered::{Layer, LayerRefusal, LayeredLook};
 
 // ---- demand 1
 
 // 7 to 11, each exactly in its case; 7 with the byte count and 8 with the place of the byte that decided it (document 02, [4]).
-pub fn open(bytes: &[u8]) -> Opening
+pub fn open(bytes: &[u8]) -> Result<Column, Refusal>
     ensures says { OpenSays editions bytes.now (opened_of result) }
 {
     Column::open(bytes)
 }
 
-pub fn look_up_in(column: Column, bytes: &[u8], id: u32) -> Answer
+pub fn look_up_in(column: Column, bytes: &[u8], id: u32) -> Result<Look, Refusal>
     ensures says { LookInSays bytes.now (column_of column) id (answer_of result) }
     ensures words { WordsBound column.head.power (place_words (answer_of result)) }
     ensures probes { FewProbes result }
@@ -45,7 +45,12 @@ pub fn next_in(column: Column, cursor: Cursor, bytes: &[u8], target: u32) -> Nex
     signalfern::next_in(column, cursor, bytes, target)
 }
 
-pub fn first_between_in(column: Column, bytes: &[u8], low: i64, high: i64) -> Between
+pub fn first_between_in(
+    column: Column,
+    bytes: &[u8],
+    low: i64,
+    high: i64,
+) -> Result<Option<u64>, Refusal>
     ensures says { BetweenInSays bytes.now (column_of column) low high (between_of result) }
 {
     signalfern::first_between_in(column, bytes, low, high)
@@ -58,7 +63,7 @@ pub fn look_up_layered_in(
     upper: Column,
     above: &[u8],
     id: u32,
-) -> Layered
+) -> Result<LayeredLook, LayerRefusal>
     ensures says { LayeredSays (look_up_in above.now (column_of upper) id) (look_up_in below.now (column_of lower) id) (layered_of result) }
     ensures words { (WordsBound lower.head.power (words_in machine result)) × (WordsBound upper.head.power (words_in correction result)) }
 {
@@ -67,53 +72,54 @@ pub fn look_up_layered_in(
 
 // ---- demand 3
 
-pub fn open_then_look_up(bytes: &[u8], id: u32) -> Answer
+pub fn open_then_look_up(bytes: &[u8], id: u32) -> Result<Look, Refusal>
     ensures { (n : ℕ) (x : Holds bytes.now n) → id ≤ max_id → Answers x id result }
 {
-    let opening = Column::open(bytes);
-    match opening {
-        Opening::Refused(why) => Answer::Refused(why),
-        Opening::Open(column) => signalfern::look_up_in(column, bytes, id),
-    }
+    let opened = Column::open(bytes)?;
+    signalfern::look_up_in(opened, bytes, id)
 }
 
 pub fn open_then_next(cursor: Cursor, bytes: &[u8], target: u32) -> Next
     ensures { (n : ℕ) (x : Holds bytes.now n) → NextAnswers x cursor.last target result }
 {
-    let opening = Column::open(bytes);
-    match opening {
-        Opening::Refused(why) => Next {
+    match Column::open(bytes) {
+        Err(why) => Next {
             cursor,
-            candidate: Candidate::Refused(why),
+            candidate: Err(why),
         },
-        Opening::Open(column) => signalfern::next_in(column, cursor, bytes, target),
+        Ok(column) => signalfern::next_in(column, cursor, bytes, target),
     }
 }
 
 // In a column of edition 3 the plain scan of its list, in any other EDITION.
-pub fn open_then_first_between(bytes: &[u8], low: i64, high: i64) -> Between
+pub fn open_then_first_between(bytes: &[u8], low: i64, high: i64) -> Result<Option<u64>, Refusal>
     ensures scans { (n : ℕ) (x : Holds bytes.now n) → x.edition ≡ runs → between_of result ≡ done (first_in low high 0 x.values) }
     ensures others { (n : ℕ) (x : Holds bytes.now n) → (x.edition ≡ runs → ⊥) → between_of result ≡ refused EDITION 0 }
 {
-    let opening = Column::open(bytes);
-    match opening {
-        Opening::Refused(why) => Between::Refused(why),
-        Opening::Open(column) => signalfern::first_between_in(column, bytes, low, high),
-    }
+    let opened = Column::open(bytes)?;
+    signalfern::first_between_in(opened, bytes, low, high)
 }
 
-pub fn open_then_look_up_layered(machine: &[u8], correction: &[u8], id: u32) -> Layered
+pub fn open_then_look_up_layered(
+    machine: &[u8],
+    correction: &[u8],
+    id: u32,
+) -> Result<LayeredLook, LayerRefusal>
     ensures { (i j : ℕ) (x : Holds machine.now i) (y : Holds correction.now j) → id ≤ max_id → LayeredAnswers x y id (layered_of result) }
 {
     let below = Column::open(machine);
     let above = Column::open(correction);
     match below {
-        Opening::Refused(why) => Layered::Refused(Layer::Machine, why),
-        Opening::Open(lower) => match above {
-            Opening::Refused(why) => Layered::Refused(Layer::Correction, why),
-            Opening::Open(upper) => {
-                signalfern::look_up_layered_in(lower, machine, upper, correction, id)
-            }
+        Err(why) => Err(LayerRefusal {
+            layer: Layer::Machine,
+            why,
+        }),
+        Ok(lower) => match above {
+            Err(why) => Err(LayerRefusal {
+                layer: Layer::Correction,
+                why,
+            }),
+            Ok(upper) => { signalfern::look_up_layered_in(lower, machine, upper, correction, id) }
         },
     }
 }

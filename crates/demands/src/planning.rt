@@ -9,7 +9,7 @@ ghost use Rattle.answers.specs.Replies.{reply_of};
 ghost use Rattle.format.specs.Says.{Within, PlannedSays, PlanSays};
 ghost use Rattle.demands.specs.Terms.{IfRefused, Told, Allowed, column_in, Writes, ComesBack};
 
-use answers::Reply;
+use answers::Refusal;
 
 // An allowed list and a plan that the small check takes give exactly the column of the plan's edition whenever there is room, and else ROOM; 17 exactly
 // where all else but the room is in order and the small check does not take the plan.
@@ -19,7 +19,7 @@ pub fn write_planned(
     table: &[i64],
     power: u32,
     out: &mut [u8],
-) -> Reply
+) -> Result<u64, Refusal>
     ensures says { Told (PlannedSays power ids.now values.now table.now (length out.old))
         out.old out.new result }
     ensures refused { IfRefused result (out.new ≡ out.old) }
@@ -33,7 +33,7 @@ pub fn write_planned(
 
 // BUFFER with 256 exactly for a shorter table. Else the table that the small check takes for these values, wherever it takes one, in the first places; and
 // plain, which is no entry, where it takes none.
-pub fn plan(values: &[i64], lent: &mut [i64]) -> Reply
+pub fn plan(values: &[i64], lent: &mut [i64]) -> Result<u64, Refusal>
     ensures says { Told (PlanSays values.now (length lent.old)) lent.old lent.new result }
     ensures refused { IfRefused result (lent.new ≡ lent.old) }
     ensures a_table { 256 ≤ length lent.old → length values.now ≤ max_count → (u : ℤ) (us : List ℤ)
@@ -53,16 +53,13 @@ pub fn plan_then_write(
     lent: &mut [i64],
     power: u32,
     out: &mut [u8],
-) -> Reply
+) -> Result<u64, Refusal>
     ensures writes { 256 ≤ length lent.old → Allowed power ids.now values.now
         → Writes (column_in table power ids.now values.now) out.old out.new result }
     ensures taken { (w : ℕ) → reply_of result ≡ refused PLAN w → ⊥ }
     ensures no_buffer { length lent.old < 256 → (reply_of result ≡ refused BUFFER 256) × (out.new ≡ out.old) }
 {
-    let planned = signalfern::plan(values, lent);
-    let Reply::Done(n) = planned else {
-        return planned;
-    };
+    let n = signalfern::plan(values, lent)?;
     let end = n as usize;
     signalfern::write_planned(ids, values, &lent[0..end], power, out)
 }

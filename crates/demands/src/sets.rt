@@ -12,10 +12,10 @@ ghost use Rattle.format.specs.Says.{SetSays};
 ghost use Rattle.demands.specs.Terms.{IfRefused, Told, Writes, Holds};
 ghost use Rattle.demands.specs.Tables.{SetCheckSays, SetFindSays};
 
-use answers::{Answer, Member, Reply};
+use answers::Refusal;
 
 // Exactly the set's bytes whenever there is room, for each strictly ascending id list within the limits, and else ROOM with their count.
-pub fn set_write(ids: &[u32], out: &mut [u8]) -> Reply
+pub fn set_write(ids: &[u32], out: &mut [u8]) -> Result<u64, Refusal>
     ensures says { Told (SetSays ids.now (length out.old)) out.old out.new result }
     ensures refused { IfRefused result (out.new ≡ out.old) }
     ensures writes { ValidIds ids.now → Writes (set_bytes ids.now) out.old out.new result }
@@ -25,7 +25,7 @@ pub fn set_write(ids: &[u32], out: &mut [u8]) -> Reply
 
 // The check accepts exactly the sets, each of one list, with its number of ids; 8 comes with the place of the byte that decided it and 7 with the byte count,
 // exactly where all before that number is sound, and all else is 13.
-pub fn set_check(bytes: &[u8]) -> Reply
+pub fn set_check(bytes: &[u8]) -> Result<u64, Refusal>
     ensures says { SetCheckSays bytes.now (reply_of result) }
     ensures accepts { (n : ℕ) → (reply_of result ≡ done n) ↔ SetOf bytes.now n }
     ensures one_list { (m n : ℕ) (x : SetOf bytes.now m) (y : SetOf bytes.now n) → x.ids ≡ y.ids }
@@ -34,7 +34,7 @@ pub fn set_check(bytes: &[u8]) -> Reply
 }
 
 // 14, then as the check; and of a set its list's answer.
-pub fn set_find(bytes: &[u8], id: u32) -> Member
+pub fn set_find(bytes: &[u8], id: u32) -> Result<Option<u64>, Refusal>
     ensures says { SetFindSays bytes.now id (member_of result) }
     ensures finds { (n : ℕ) (x : SetOf bytes.now n) → id ≤ max_id → member_of result ≡ done (member_in x.ids id) }
 {
@@ -44,9 +44,9 @@ pub fn set_find(bytes: &[u8], id: u32) -> Member
 // What three calls answered; where the writer refused, that.
 #[derive(Clone, Copy)]
 pub struct SetTrip {
-    pub wrote: Reply,
-    pub checked: Reply,
-    pub member: Member,
+    pub wrote: Result<u64, Refusal>,
+    pub checked: Result<u64, Refusal>,
+    pub member: Result<Option<u64>, Refusal>,
 }
 
 // What `set_write` wrote, the check accepts with the number of ids, and membership knows.
@@ -56,12 +56,12 @@ pub fn write_then_find(ids: &[u32], out: &mut [u8], id: u32) -> SetTrip
 {
     let wrote = signalfern::set_write(ids, out);
     match wrote {
-        Reply::Refused(why) => SetTrip {
+        Err(why) => SetTrip {
             wrote,
             checked: wrote,
-            member: Member::Refused(why),
+            member: Err(why),
         },
-        Reply::Done(n) => {
+        Ok(n) => {
             let end = n as usize;
             let checked = set_check(&out[0..end]);
             let member = set_find(&out[0..end], id);
@@ -77,8 +77,8 @@ pub fn write_then_find(ids: &[u32], out: &mut [u8], id: u32) -> SetTrip
 // What a look-up in a column and membership in a set answered.
 #[derive(Clone, Copy)]
 pub struct Both {
-    pub answer: Answer,
-    pub member: Member,
+    pub answer: Result<answers::Look, Refusal>,
+    pub member: Result<Option<u64>, Refusal>,
 }
 
 // "Show that it and the id section of the same list answer every membership question alike": any id, also above its limit.

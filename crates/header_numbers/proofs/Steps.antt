@@ -5,9 +5,12 @@ use Rattle.format.specs.Kit.{mul-le-mul_left, add-one, arith, lt-ltb, le-ltb, eq
 use Rattle.format.specs.Kit.{get_or, drop, drop_of_length-le, drop-cons}
 use Rattle.format.specs.HeaderNumbers.{Got, got, short, bad, above, read_groups, read_number}
 use Rattle.laws.proofs.Cases.{equal_or}
-use Rattle.header_numbers.specs.Read.{number_of, number_on, decides_at}
+use Rattle.header_numbers.specs.Read.{number_is, number_of, number_on, decides_at}
 use Rattle.header_numbers.specs.declared.Number.{Number}
-use Rattle.header_numbers.specs.declared.Number.TheVariants.{Is, Short, Bad}
+use Rattle.header_numbers.specs.declared.NumberFault.{NumberFault}
+use Rattle.header_numbers.specs.declared.NumberFault.TheVariants.{Short, Bad}
+use Rattle.std.specs.Prelude.{Err}
+use Rattle.std.specs.declared.result.Result.{Result}
 
 -- ---- the scale: with `left` bytes before the tenth, it is what takes the tenth to 2^63
 
@@ -55,11 +58,11 @@ of_above i b short = refl
 of_above i b (bad k) = let q : i + suc k ≡ i + 1 + k = omega arith in rw q
 
 module _ (s : List ℕ) (i : ℕ) where
-  pub at_end : (left scale sum : ℕ) → length s ≤ i → number_on scale sum i (read_groups left (drop i s)) ≡ Short
+  pub at_end : (left scale sum : ℕ) → length s ≤ i → number_on scale sum i (read_groups left (drop i s)) ≡ Err Short
   unfolding read_groups
   at_end left scale sum h = rw (drop_of_length-le s h)
 
-  pub none_first : length s ≤ i → number_of i (read_number (drop i s)) ≡ Short
+  pub none_first : length s ≤ i → number_of i (read_number (drop i s)) ≡ Err Short
   unfolding read_number
   none_first h = rw (drop_of_length-le s h)
 
@@ -69,7 +72,7 @@ module _ (s : List ℕ) (i : ℕ) where
 
     -- the first byte
 
-    pub small_first : b < 128 → number_of i (read_number (drop i s)) ≡ Is b (i + 1)
+    pub small_first : b < 128 → number_of i (read_number (drop i s)) ≡ number_is b (i + 1)
     unfolding read_number
     small_first k = rw (next, lt-ltb b 128 k)
 
@@ -79,7 +82,7 @@ module _ (s : List ℕ) (i : ℕ) where
 
     -- a later one, with `left` bytes before the tenth
 
-    pub last : (left scale sum : ℕ) → (left ≡ 0 → ⊥) → b < 128 → (b ≡ 0 → ⊥) → number_on scale sum i (read_groups left (drop i s)) ≡ Is (sum + scale * b) (i + 1)
+    pub last : (left scale sum : ℕ) → (left ≡ 0 → ⊥) → b < 128 → (b ≡ 0 → ⊥) → number_on scale sum i (read_groups left (drop i s)) ≡ number_is (sum + scale * b) (i + 1)
     unfolding read_groups
     last zero scale sum n k z = absurd (n refl)
     last (suc l) scale sum n k z = rw (next, lt-ltb b 128 k, ne_eqb b 0 z)
@@ -96,10 +99,10 @@ module _ (s : List ℕ) (i : ℕ) where
 
     module _ (k scale sum : ℕ) (few : k ≤ 9) where
       -- what the bytes from here on make of the sum
-      abbrev rest : Number
+      abbrev rest : Result Number NumberFault
       rest = number_on scale sum i (read_groups (9 - k) (drop i s))
 
-      pub decided : decides_at k b ≡ true → rest ≡ Bad i
+      pub decided : decides_at k b ≡ true → rest ≡ Err (Bad i)
       unfolding read_groups
       decided t =
           equal_or k 9
@@ -121,7 +124,7 @@ module _ (s : List ℕ) (i : ℕ) where
         not_zero : (k ≡ 9 → ⊥) → b ≡ 0 → ⊥
         not_zero n = let f : eqb b 0 ≡ false = rw (ne_eqb k 9 n) at t in eqb-false b 0 f
 
-        pub ended : b < 128 → rest ≡ Is (sum + scale * b) (i + 1)
+        pub ended : b < 128 → rest ≡ number_is (sum + scale * b) (i + 1)
         unfolding read_groups
         ended h =
             equal_or k 9

@@ -7,22 +7,20 @@ ghost use Rattle.format.specs.HeaderNumbers.{number, read_number, read_groups};
 ghost use Rattle.header_numbers.specs.Read.{number_of, number_on, decides_at};
 ghost use Rattle.header_numbers.specs.Quick.{Quick};
 
-// What reading a header number finds.
-#[derive(Clone, Copy)]
-pub enum Number {
-    // The number, and the place after its last byte.
-    Is { value: u64, next: usize },
+// A header number, and the place after its last byte.
+#[derive(Clone, Copy, Debug, PartialEq, Eq)]
+pub struct Number {
+    pub value: u64,
+    pub next: usize,
+}
+
+// Why there is none at a place.
+#[derive(Clone, Copy, Debug, PartialEq, Eq)]
+pub enum NumberFault {
     // The bytes end before its last byte.
     Short,
     // Not minimal, or 2^64 or more: the place of the byte that decides.
     Bad { at: usize },
-}
-
-// A byte as a number, and that it is small.
-fn wide(x: u8) -> u64
-    ensures { (result ≡ x) × (result < 256) }
-{
-    x as u64
 }
 
 // How many bytes the number takes.
@@ -66,53 +64,49 @@ fn decides(k: usize, b: u64) -> bool
 }
 
 // The bytes of a number after its first, whose seven bits are `low`.
-fn read_rest(s: &[u8], first: usize, low: u64) -> Number
+fn read_rest(s: &[u8], first: usize, low: u64) -> Result<Number, NumberFault>
     requires { (low < 128) × (first < length s.now) }
     ensures { result ≡ number_on 128 low (first + 1) (read_groups 8 (drop (first + 1) s.now)) }
 {
-    let mut k: usize = 1;
     let mut scale: u64 = 128;
     let mut sum = low;
-    let mut i = first + 1;
-    while i < s.len() {
-        let b = wide(s[i]);
-        if decides(k, b) {
-            return Number::Bad { at: i };
+    for i in first + 1..s.len() {
+        let b = u64::from(s[i]);
+        if decides(i - first, b) {
+            return Err(NumberFault::Bad { at: i });
         }
         if b < 128 {
-            return Number::Is {
+            return Ok(Number {
                 value: sum + scale * b,
                 next: i + 1,
-            };
+            });
         }
         sum += scale * (b - 128);
         scale *= 128;
-        k += 1;
-        i += 1;
     }
-    Number::Short
+    Err(NumberFault::Short)
 }
 
 // Reads the number that starts at a place.
-pub fn read_number(s: &[u8], at: usize) -> Number
+pub fn read_number(s: &[u8], at: usize) -> Result<Number, NumberFault>
     ensures { result ≡ number_of at (read_number (drop at s.now)) }
 {
     if s.len() <= at {
-        return Number::Short;
+        return Err(NumberFault::Short);
     }
-    let b = wide(s[at]);
+    let b = u64::from(s[at]);
     if b < 128 {
-        return Number::Is {
+        return Ok(Number {
             value: b,
             next: at + 1,
-        };
+        });
     }
     read_rest(s, at, b - 128)
 }
 
 // A number of at most five bytes, and how many they are: 0 for all else. The length is told by the jumps alone and not by a sum with the
 // value, so that the place of what follows is guessed with them and waits for no byte (docs/DECISIONS.md, "Speed").
-#[derive(Clone, Copy)]
+#[derive(Clone, Copy, Debug, PartialEq, Eq)]
 pub struct Brief {
     pub value: u64,
     pub len: usize,
@@ -129,12 +123,12 @@ pub fn quick_more(s: &[u8], at: usize) -> Brief
     requires { at + 5 ≤ length s.now }
     ensures { Quick s.now at result }
 {
-    let b0 = wide(s[at]);
+    let b0 = u64::from(s[at]);
     if b0 < 128 {
         return Brief { value: b0, len: 1 };
     }
     let i1 = at + 1;
-    let b1 = wide(s[i1]);
+    let b1 = u64::from(s[i1]);
     if b1 < 128 {
         if b1 == 0 {
             return no_number();
@@ -145,7 +139,7 @@ pub fn quick_more(s: &[u8], at: usize) -> Brief
         };
     }
     let i2 = i1 + 1;
-    let b2 = wide(s[i2]);
+    let b2 = u64::from(s[i2]);
     if b2 < 128 {
         if b2 == 0 {
             return no_number();
@@ -156,7 +150,7 @@ pub fn quick_more(s: &[u8], at: usize) -> Brief
         };
     }
     let i3 = i2 + 1;
-    let b3 = wide(s[i3]);
+    let b3 = u64::from(s[i3]);
     if b3 < 128 {
         if b3 == 0 {
             return no_number();
@@ -167,7 +161,7 @@ pub fn quick_more(s: &[u8], at: usize) -> Brief
         };
     }
     let i4 = i3 + 1;
-    let b4 = wide(s[i4]);
+    let b4 = u64::from(s[i4]);
     if b4 < 128 {
         if b4 == 0 {
             return no_number();
@@ -189,7 +183,7 @@ pub fn quick_number(s: &[u8], at: usize) -> Brief
     requires { at + 5 ≤ length s.now }
     ensures { Quick s.now at result }
 {
-    let b = wide(s[at]);
+    let b = u64::from(s[at]);
     if b < 128 {
         return Brief { value: b, len: 1 };
     }
@@ -201,7 +195,7 @@ pub fn quick_byte(s: &[u8], at: usize) -> Brief
     requires { at < length s.now }
     ensures { (Quick s.now at result) × ((result.len ≡ 0 → ⊥) → result.len ≡ 1) }
 {
-    let b = wide(s[at]);
+    let b = u64::from(s[at]);
     if b < 128 {
         return Brief { value: b, len: 1 };
     }

@@ -75,13 +75,6 @@ module _ (s : List ℕ) (at c r : ℕ) where
 
     -- ---- the last one
 
-    -- it is one of the entries
-    pub middle_in : (m : ℕ) → m ≡ cond (ltb lo hi) ((lo + hi) / 2) 0 → 0 < c → m < c
-    middle_in m e h =
-        below_or lo hi
-        (λ l. let q : m ≡ (lo + hi) / 2 = e ∙ rw (lt-ltb lo hi l) refl in omega (arith, p.within))
-        (λ l. let q : m ≡ 0 = e ∙ rw (le-ltb lo hi l) refl in omega arith)
-
     ends : (o : Option ℕ) → (halve r (shorts c (drop at s)) lo hi p.probes).index ≡ o → halved r (shorts c (drop at s)) ≡ o
     ends o e =
         ap (λ (k : ℕ). (halve r (shorts c (drop at s)) 0 k 0).index) (length_shorts c (drop at s)) ∙ sym p.same ∙ e

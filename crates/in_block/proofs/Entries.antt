@@ -1,6 +1,6 @@
 -- One probe of a sparse block's entries: which half is left, and the word that tells what was found. Assumes nothing.
-use Rattle.format.specs.Kit.{◌≡◌, refl, sym, ap, ◌∙◌, subst, ◌⊎◌, inl, inr, cond, List, Option, none, some, ℕ, suc, zero, ◌+◌, ◌-◌, ◌*◌, ◌/◌, ◌%◌}
-use Rattle.format.specs.Kit.{◌<◌, ◌≤◌, add-zero, arith, add-one, ltb, get_or, drop, drop-drop, lt-ltb, le-ltb}
+use Rattle.format.specs.Kit.{◌≡◌, refl, sym, ap, ◌∙◌, subst, ◌⊎◌, inl, inr, cond, List, Option, none, some, ℕ, ◌+◌, ◌-◌, ◌*◌, ◌/◌, ◌%◌}
+use Rattle.format.specs.Kit.{◌<◌, ◌≤◌, arith, add-one, ltb, get_or, drop, lt-ltb, le-ltb}
 use Rattle.format.specs.Bytes.{low_at}
 use Rattle.format.specs.IdsRead.{shorts}
 use Rattle.format.specs.LookUp.{Sought, halve, halving, halved, in_sparse}

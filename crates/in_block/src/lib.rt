@@ -18,7 +18,8 @@ pub use by_count::index_in;
 
 // A place's index in its block, the words counted and the entries probed; not there, with both; or a failed step. (32 bits for the
 // index: both cases then have words and probes in the same place, and nothing goes through memory.)
-#[derive(Clone, Copy)]
+// An enum of its own and no Option: three ways, and document 01 has each look-up step return an enum.
+#[derive(Clone, Copy, Debug, PartialEq, Eq)]
 pub enum Inner {
     At { inner: u32, words: u64, probes: u64 },
     Absent { words: u64, probes: u64 },
@@ -44,6 +45,7 @@ fn left(x: u32, r: u32, past: usize, before: usize) -> usize
 // r among the entries lo to hi (hi not included) of those at `at`, after some probes: each probe halves what is left of the entries. The
 // slice by reference and the result in one word (16 times the index, or `NOWHERE`, and the probes), so that
 // nothing goes through memory and the call of itself is a jump.
+// It calls itself, and is no loop: document 01 names this form.
 fn halve(s: &&[u8], at: usize, lo: usize, hi: usize, r: u32, probes: u64) -> u64
     requires { (lo ≤ hi) × (hi < block_places) × (at + 2 * hi ≤ length s.now.now) × (at + 2 * hi < 2 ^ 64)
         × (probes + (hi - lo) < block_places) }

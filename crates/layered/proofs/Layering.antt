@@ -1,50 +1,55 @@
 -- The layered answer by the correction's, and the part by that answer. Assumes nothing.
-use Rattle.format.specs.Kit.{◌≡◌, refl, sym, ap, ◌∙◌, subst, List, [], ◌∷◌, inl, inr, ℕ, ◌+◌, ◌≤◌, max, arith, length, ℤ}
-use Rattle.format.specs.Refusals.{Outcome}
+use Rattle.format.specs.Kit.{◌≡◌, refl, sym, ap, ◌∙◌, subst, List, ℕ, ◌+◌, ◌≤◌, max, arith, length, ℤ}
 use Rattle.format.specs.Editions.{editions}
 use Rattle.format.specs.Opening.{open_column}
+use Rattle.format.specs.Refusals.{Outcome}
 use Rattle.format.specs.LookUp.{Look}
-use Rattle.format.specs.Layered.{Layer, machine, correction, of_layer, underneath, on_top, look_up_layered, no_part, section_in, part_by, layered_part}
+use Rattle.format.specs.Layered.{LayeredLook, Layer, machine, correction, of_layer, look_up_layered, no_part, section_in, part_by, layered_part}
 use Rattle.laws.proofs.Layered.{Within, part_within}
-use Rattle.layered.specs.Answers.{layer_of, layered_of, part_of, top_of}
+use Rattle.layered.specs.Answers.{layer_of, layered_of, part_of, Topped}
 use Rattle.layered.specs.declared.Layer as La
-use Rattle.layered.specs.declared.Layered as Ly
 use Rattle.layered.specs.declared.Part.{Part}
-use Rattle.layered.specs.declared.Top as To
+use Rattle.std.specs.Prelude.{Ok, Err}
+use Rattle.std.specs.declared.result.Result.{Result}
+use Rattle.layered.specs.declared.LayeredLook as Ly
+use Rattle.layered.specs.declared.LayerRefusal as Rf
 
--- ---- by the correction's answer
+-- ---- the correction's answer
 
-module _ (t : To.Top) (above : Outcome Look) (h : (below : Outcome Look) → top_of t below ≡ on_top above below) (below : Outcome Look) where
-  pub settled : (r : Ly.Layered) → t ≡ To.Top.Settled r → layered_of r ≡ on_top above below
-  settled r e = sym (ap (λ (x : To.Top). top_of x below) e) ∙ h below
-
-  pub goes_on : (k : ℕ) → t ≡ To.Top.Absent k → underneath k below ≡ on_top above below
-  goes_on k e = sym (ap (λ (x : To.Top). top_of x below) e) ∙ h below
+pub found_there : (x : Ly.LayeredLook) (below : Outcome Look) (t : LayeredLook) → ((w k : ℕ) → x ≡ Ly.LayeredLook.Absent w k → ⊥)
+    → Topped (Ok x) below t → layered_of (Ok x) ≡ t
+found_there (Ly.LayeredLook.Found layer o v w k) below t h e = e
+found_there (Ly.LayeredLook.Absent w k) below t z e = absurd (z _ _ refl)
 
 -- ---- the part
 
-neither : (m c : List ℕ) (r : Ly.Layered) → ((layer : La.Layer) (o : ℕ) (v : ℤ) (w k : ℕ) → r ≡ Ly.Layered.Found layer o v w k → ⊥) → part_by editions m c (layered_of r) ≡ no_part
+neither : (m c : List ℕ) (x : Ly.LayeredLook) → ((layer : La.Layer) (o : ℕ) (v : ℤ) (w k : ℕ) → x ≡ Ly.LayeredLook.Found layer o v w k → ⊥)
+    → part_by editions m c (layered_of (Ok x)) ≡ no_part
 unfolding part_by
-neither m c (Ly.Layered.Found layer o v w k) z = absurd (z _ _ _ _ _ refl)
-neither m c (Ly.Layered.Absent w k) t = refl
-neither m c (Ly.Layered.Refused layer why) t = refl
+neither m c (Ly.LayeredLook.Found layer o v w k) z = absurd (z _ _ _ _ _ refl)
+neither m c (Ly.LayeredLook.Absent w k) t = refl
 
-module _ (m c : List ℕ) (id : ℕ) (r : Ly.Layered) (e : layered_of r ≡ look_up_layered editions m c id) where
+module _ (m c : List ℕ) (id : ℕ) (r : Result Ly.LayeredLook Rf.LayerRefusal) (e : layered_of r ≡ look_up_layered editions m c id) where
   by_answer : part_by editions m c (layered_of r) ≡ layered_part editions m c id
   unfolding layered_part
   by_answer = ap (part_by editions m c) e
 
-  -- absent or refused
-  pub from_neither : ((layer : La.Layer) (o : ℕ) (v : ℤ) (w k : ℕ) → r ≡ Ly.Layered.Found layer o v w k → ⊥) → no_part ≡ layered_part editions m c id
-  from_neither t = sym (neither m c r t) ∙ by_answer
+  pub from_refused : (x : Rf.LayerRefusal) → r ≡ Err x → no_part ≡ layered_part editions m c id
+  unfolding part_by
+  from_refused x f = sym (ap (λ (q : Result Ly.LayeredLook Rf.LayerRefusal). part_by editions m c (layered_of q)) f) ∙ by_answer
+
+  pub from_absent : (x : Ly.LayeredLook) → r ≡ Ok x → ((layer : La.Layer) (o : ℕ) (v : ℤ) (w k : ℕ) → x ≡ Ly.LayeredLook.Found layer o v w k → ⊥)
+      → no_part ≡ layered_part editions m c id
+  from_absent x f t =
+      sym (neither m c x t) ∙ sym (ap (λ (q : Result Ly.LayeredLook Rf.LayerRefusal). part_by editions m c (layered_of q)) f) ∙ by_answer
 
   -- found, in the column that is named
-  pub from_found : (layer : La.Layer) (o : ℕ) (v : ℤ) (w k : ℕ) → r ≡ Ly.Layered.Found layer o v w k → (named : La.Layer) → layer ≡ named
+  pub from_found : (layer : La.Layer) (o : ℕ) (v : ℤ) (w k : ℕ) → r ≡ Ok (Ly.LayeredLook.Found layer o v w k) → (named : La.Layer) → layer ≡ named
       → section_in (layer_of named) (open_column editions (of_layer m c (layer_of named))) ≡ layered_part editions m c id
   unfolding part_by
   from_found layer o v w k f named g =
-      sym (ap (λ (x : La.Layer). part_by editions m c (layered_of (Ly.Layered.Found x o v w k))) g)
-      ∙ sym (ap (λ (x : Ly.Layered). part_by editions m c (layered_of x)) f)
+      sym (ap (λ (x : La.Layer). part_by editions m c (layered_of (Ok (Ly.LayeredLook.Found x o v w k)))) g)
+      ∙ sym (ap (λ (x : Result Ly.LayeredLook Rf.LayerRefusal). part_by editions m c (layered_of x)) f)
       ∙ by_answer
 
 -- it lies within its column

@@ -6,25 +6,26 @@ ghost use Rattle.std.specs.Prelude.{◌≡◌};
 ghost use Rattle.format.specs.Refusals.{Outcome};
 ghost use Rattle.format.specs.Editions.{editions};
 ghost use Rattle.format.specs.Opening.{open_column};
-ghost use Rattle.format.specs.LookUp.{Look, look_up};
+ghost use Rattle.format.specs.LookUp as Lu;
+ghost use Rattle.format.specs.LookUp.{look_up};
 ghost use Rattle.format.specs.Layered.{underneath, on_top, look_up_layered, look_up_layered_in, no_part, section_in, layered_part, IsPart};
 ghost use Rattle.answers.specs.Replies.{answer_of};
 ghost use Rattle.column.specs.Opened.{column_of};
-ghost use Rattle.layered.specs.Answers.{layer_of, layered_of, part_of, top_of};
+ghost use Rattle.layered.specs.Answers.{layer_of, layered_of, part_of, Topped};
 
-use answers::{Answer, Refusal};
-use column::{Column, Opening};
+use answers::{Look, Refusal};
+use column::Column;
 
 // Which of the two columns.
-#[derive(Clone, Copy)]
+#[derive(Clone, Copy, Debug, PartialEq, Eq)]
 pub enum Layer {
     Machine,
     Correction,
 }
 
-// Found and refused name their column; found and absent carry the words of each column apart, 0 for one not looked in.
-#[derive(Clone, Copy)]
-pub enum Layered {
+// What a look-up in both finds. Found names its column; both carry the words of each column apart, 0 for one not looked in.
+#[derive(Clone, Copy, Debug, PartialEq, Eq)]
+pub enum LayeredLook {
     Found {
         layer: Layer,
         ordinal: u64,
@@ -36,108 +37,115 @@ pub enum Layered {
         machine_words: u64,
         correction_words: u64,
     },
-    Refused(Layer, Refusal),
 }
 
-// The sums of words of a page, each column's apart; or its refusal.
-#[derive(Clone, Copy)]
-pub enum LayeredReply {
-    Done {
-        machine_words: u64,
-        correction_words: u64,
-    },
-    Refused(Refusal),
+// A refusal, and the column that gives it.
+#[derive(Clone, Copy, Debug, PartialEq, Eq)]
+pub struct LayerRefusal {
+    pub layer: Layer,
+    pub why: Refusal,
 }
 
-// How many pairs of both columns were read, and whether one is left; or the refusal of the first step, by its column.
-#[derive(Clone, Copy)]
-pub enum LayeredReadout {
-    More(u64),
-    Ended(u64),
-    Refused(Layer, Refusal),
+// The sums of words of a page, each column's apart.
+#[derive(Clone, Copy, Debug, PartialEq, Eq)]
+pub struct LayeredWords {
+    pub machine_words: u64,
+    pub correction_words: u64,
 }
 
 // ---- one column's answer
 
 // Looks one id up: 14, then 7 to 11, then 15. It answers as `lookup::look_up`, but opens the column as every other call does: the header read
 // at once stays with the single look-up (docs/DECISIONS.md, "Speed").
-fn answer_from(bytes: &[u8], id: u32) -> Answer
+fn answer_from(bytes: &[u8], id: u32) -> Result<Look, Refusal>
     ensures { answer_of result ≡ look_up editions bytes.now id }
 {
     if !column::id_ok(id) {
-        return Answer::Refused(Refusal::Id);
+        return Err(Refusal::Id);
     }
-    let opened = Column::open(bytes);
-    match opened {
-        Opening::Refused(why) => Answer::Refused(why),
-        Opening::Open(column) => lookup::steps_in(bytes, column, id),
-    }
+    let column = Column::open(bytes)?;
+    lookup::steps_in(bytes, column, id)
 }
 
 // ---- the look-up
 
-// The correction's answer: it is the call's, or the id is absent there and the machine column is asked.
-#[derive(Clone, Copy)]
-enum Top {
-    Settled(Layered),
-    Absent(u64),
-}
-
-fn top_of(answer: Answer) -> Top
-    ensures { (below : Outcome Look) → top_of result below ≡ on_top (answer_of answer) below }
+// The correction's answer. It is the call's, but where the id is absent there the machine column is to be asked.
+fn top_of(answer: Result<Look, Refusal>) -> Result<LayeredLook, LayerRefusal>
+    ensures { (below : Outcome Lu.Look) → Topped result below (on_top (answer_of answer) below) }
 {
     match answer {
-        Answer::Found {
-            ordinal,
-            value,
-            words,
-            ..
-        } => Top::Settled(Layered::Found {
+        Ok(
+            Look::Found {
+                ordinal,
+                value,
+                words,
+                ..
+            },
+        ) => Ok(LayeredLook::Found {
             layer: Layer::Correction,
             ordinal,
             value,
             machine_words: 0,
             correction_words: words,
         }),
-        Answer::Absent { words, .. } => Top::Absent(words),
-        Answer::Refused(why) => Top::Settled(Layered::Refused(Layer::Correction, why)),
+        Ok(Look::Absent { words, .. }) => Ok(LayeredLook::Absent {
+            machine_words: 0,
+            correction_words: words,
+        }),
+        Err(why) => Err(LayerRefusal {
+            layer: Layer::Correction,
+            why,
+        }),
     }
 }
 
 // The machine column's answer, with the words that were counted in the correction.
-fn underneath(counted: u64, answer: Answer) -> Layered
+fn underneath(counted: u64, answer: Result<Look, Refusal>) -> Result<LayeredLook, LayerRefusal>
     ensures { layered_of result ≡ underneath counted (answer_of answer) }
 {
     match answer {
-        Answer::Found {
-            ordinal,
-            value,
-            words,
-            ..
-        } => Layered::Found {
+        Ok(
+            Look::Found {
+                ordinal,
+                value,
+                words,
+                ..
+            },
+        ) => Ok(LayeredLook::Found {
             layer: Layer::Machine,
             ordinal,
             value,
             machine_words: words,
             correction_words: counted,
-        },
-        Answer::Absent { words, .. } => Layered::Absent {
+        }),
+        Ok(Look::Absent { words, .. }) => Ok(LayeredLook::Absent {
             machine_words: words,
             correction_words: counted,
-        },
-        Answer::Refused(why) => Layered::Refused(Layer::Machine, why),
+        }),
+        Err(why) => Err(LayerRefusal {
+            layer: Layer::Machine,
+            why,
+        }),
     }
 }
 
 // Looks one id up in both columns; the machine column is not opened where the correction finds it or refuses.
-pub fn look_up_layered(machine: &[u8], correction: &[u8], id: u32) -> Layered
+pub fn look_up_layered(
+    machine: &[u8],
+    correction: &[u8],
+    id: u32,
+) -> Result<LayeredLook, LayerRefusal>
     ensures { layered_of result ≡ look_up_layered editions machine.now correction.now id }
 {
-    let top = top_of(answer_from(correction, id));
-    match top {
-        Top::Settled(answer) => answer,
-        Top::Absent(words) => underneath(words, answer_from(machine, id)),
-    }
+    let top = top_of(answer_from(correction, id))?;
+    let LayeredLook::Absent {
+        correction_words,
+        ..
+    } = top
+    else {
+        return Ok(top);
+    };
+    underneath(correction_words, answer_from(machine, id))
 }
 
 // The same from two columns that were opened before, or any numbers in their place.
@@ -147,21 +155,28 @@ pub fn look_up_layered_in(
     correction_column: Column,
     correction: &[u8],
     id: u32,
-) -> Layered
+) -> Result<LayeredLook, LayerRefusal>
     ensures { layered_of result
         ≡ look_up_layered_in machine.now (column_of machine_column) correction.now (column_of correction_column) id }
 {
-    let top = top_of(lookup::look_up_in(correction_column, correction, id));
-    match top {
-        Top::Settled(answer) => answer,
-        Top::Absent(words) => underneath(words, lookup::look_up_in(machine_column, machine, id)),
-    }
+    let top = top_of(lookup::look_up_in(correction_column, correction, id))?;
+    let LayeredLook::Absent {
+        correction_words,
+        ..
+    } = top
+    else {
+        return Ok(top);
+    };
+    underneath(
+        correction_words,
+        lookup::look_up_in(machine_column, machine, id),
+    )
 }
 
 // ---- the value section as a part of the lent column
 
 // So many bytes of one of the columns, from a place on.
-#[derive(Clone, Copy)]
+#[derive(Clone, Copy, Debug, PartialEq, Eq)]
 pub struct Part {
     pub layer: Layer,
     pub start: usize,
@@ -184,8 +199,7 @@ fn no_part() -> Part
 fn section_in(layer: Layer, bytes: &[u8]) -> Part
     ensures { part_of result ≡ section_in (layer_of layer) (open_column editions bytes.now) }
 {
-    let opened = Column::open(bytes);
-    let Opening::Open(column) = opened else {
+    let Ok(column) = Column::open(bytes) else {
         return no_part();
     };
     let head = column.head;
@@ -201,8 +215,10 @@ fn section_in(layer: Layer, bytes: &[u8]) -> Part
 pub fn layered_part(machine: &[u8], correction: &[u8], id: u32) -> Part
     ensures { part_of result ≡ layered_part editions machine.now correction.now id }
 {
-    let answer = look_up_layered(machine, correction, id);
-    let Layered::Found { layer, .. } = answer else {
+    let Ok(look) = look_up_layered(machine, correction, id) else {
+        return no_part();
+    };
+    let LayeredLook::Found { layer, .. } = look else {
         return no_part();
     };
     match layer {

@@ -1,7 +1,7 @@
 -- Both columns' answers by those of each: where an id is absent in the correction the machine column's, and else the correction's; and the words.
 -- Assumes nothing.
 use Rattle.format.specs.Kit.{◌≡◌, refl, sym, ap, ap₂, ◌∙◌, true, false, cond, List, [], ◌∷◌, ◌++◌, append_assoc, map, ℕ, suc, ◌+◌, ◌<◌, ◌%◌, ◌^◌, arith}
-use Rattle.format.specs.Kit.{eqb, leb, ne_eqb, lt-leb, ◌≤◌, length, set, drop, length-append, length-map, ℤ}
+use Rattle.format.specs.Kit.{eqb, leb, ne_eqb, lt-leb, ◌≤◌, length, drop, length-append, length-map, ℤ}
 use lib.Seq.{set-append_seam}
 use Rattle.format.specs.Refusals.{Outcome, done, refused}
 use Rattle.format.specs.LookUp.{Look, found, absent}

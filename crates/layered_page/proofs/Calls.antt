@@ -1,11 +1,11 @@
 -- The two calls: the correction's page, the columns by its kinds, and what is left at the end. Assumes nothing.
-use Rattle.format.specs.Kit.{◌≡◌, refl, sym, ap, ap₂, ◌∙◌, true, false, cond, ◌&&◌, List, [], ◌∷◌, ◌++◌, map, ℕ, zero, suc, ◌+◌, ◌%◌, ◌^◌, ◌≤◌, ◌<◌, arith}
+use Rattle.format.specs.Kit.{◌≡◌, refl, sym, ap, ap₂, ◌∙◌, true, false, ◌&&◌, List, [], ◌∷◌, ◌++◌, map, ℕ, zero, suc, ◌%◌, ◌^◌, ◌≤◌, ◌<◌, arith}
 use Rattle.format.specs.Kit.{Bool, leb, leb-true, length, length-map, drop, take, take_at, drop_at, sets, ℤ}
 use Rattle.format.specs.Refusals.{Outcome, done, refused, need, BUFFER, look_up_numbers, look_up_in_numbers}
 use Rattle.format.specs.Editions.{editions, among}
 use Rattle.format.specs.Opening.{Opened, open_column, head_ok, length_ok}
 use Rattle.format.specs.LookUp.{Look, look_up, look_up_in}
-use Rattle.format.specs.Page.{place_kind, place_ordinal, place_value, page_words}
+use Rattle.format.specs.Page.{place_kind, place_ordinal, place_value}
 use Rattle.format.specs.Layered.{LayeredLook, on_top, look_up_layered, look_up_layered_in}
 use Rattle.format.specs.LayeredPage.{layered_kind, layered_ordinal, layered_value, layered_column, machine_words, correction_words, sum_of, page_by}
 use Rattle.format.specs.LayeredPage.{layered_reply, layered_after}
@@ -16,15 +16,18 @@ use Rattle.laws.proofs.LayeredPages.{enough}
 use Rattle.laws.proofs.RefusalNumbers.{look_up_refusals, look_up_in_refusals}
 use Rattle.answers.specs.declared.Refusal as Re
 use Rattle.column.specs.Opened.{column_of, opened_of, judged_as}
-use Rattle.column.specs.declared.Opening as Od
+use Rattle.column.specs.declared.Column.{Column}
 use Rattle.layered.specs.Answers.{layered_reply_of}
-use Rattle.layered.specs.declared.LayeredReply as Lp
 use Rattle.page.specs.Openings.{look_by, Fit}
 use Rattle.page.specs.Placed.{Paged}
 use Rattle.page.proofs.Openings.{up_by, in_by}
 use Rattle.layered_page.specs.Absent.{column_by, some_absent}
 use Rattle.layered_page.specs.Pages.{both, Numbered, Above, Whole, Leaves}
 use Rattle.layered_page.proofs.Answered.{below, above, columns_are, none_laid, none_machine, none_correction}
+use Rattle.std.specs.Prelude.{Ok, Err}
+use Rattle.std.specs.declared.result.Result.{Result}
+use Rattle.layered.specs.declared.LayeredWords as Lw
+use Rattle.layered.specs.Answers.{counted}
 
 -- ---- the numbers of refusals
 
@@ -64,10 +67,10 @@ unfolding look_up_layered_in
 layered_in_same m x c y top low e f id = ap₂ on_top (e id) (f id)
 
 -- a column that was tested fits
-pub judged_fits : (bytes : List ℕ) (c : Opened) (r : Od.Opening) → opened_of r ≡ judged_as bytes c → Fit bytes r
+pub judged_fits : (bytes : List ℕ) (c : Opened) (r : Result Column Re.Refusal) → opened_of r ≡ judged_as bytes c → Fit bytes r
 unfolding need
-judged_fits bytes c (Od.Opening.Refused why) e = tt
-judged_fits bytes c (Od.Opening.Open k) e =
+judged_fits bytes c (Err why) e = tt
+judged_fits bytes c (Ok k) e =
     true_or (head_ok c.head)
     (λ h.
     true_or (length_ok bytes c)
@@ -103,7 +106,7 @@ has_room n o v k c h =
     (leb-true _ _ d.0, leb-true _ _ d.1, leb-true _ _ b.1, leb-true _ _ a.1)
 
 pub refused_so : (p : Outcome (List LayeredLook)) (n : ℕ) (os : List ℕ) (vs : List ℤ) (ks cs : List ℕ) → p ≡ refused BUFFER n
-    → Leaves p (Lp.LayeredReply.Refused (Re.Refusal.Buffer n)) os os vs vs ks ks cs cs
+    → Leaves p (Err (Re.Refusal.Buffer n)) os os vs vs ks ks cs cs
 unfolding layered_reply layered_after
 refused_so p n os vs ks cs e = rw e (refl, (refl, (refl, (refl, refl))))
 
@@ -174,7 +177,7 @@ module _ (top : ℕ → Outcome Look) (ids : List ℕ) where
           ∙ ap (λ (xs : List LayeredLook). map f xs ++ drop (length ids) l) looks
           ∙ ap (λ (n : ℕ). map f (map look ids) ++ drop n l) (sym (length-map ids look))
 
-      leaves : {os'' : List ℕ} {vs'' : List ℤ} {ks'' : List ℕ} (r : Lp.LayeredReply)
+      leaves : {os'' : List ℕ} {vs'' : List ℤ} {ks'' : List ℕ} (r : Result Lw.LayeredWords Re.Refusal)
           → os'' ≡ map layered_ordinal (map (both top low) ids) ++ drop (length ids) os
           → vs'' ≡ map layered_value (map (both top low) ids) ++ drop (length ids) vs
           → ks'' ≡ map layered_kind (map (both top low) ids) ++ drop (length ids) ks
@@ -188,7 +191,7 @@ module _ (top : ℕ → Outcome Look) (ids : List ℕ) where
           )
 
       -- where the machine column was asked
-      pub asked_so : {os'' : List ℕ} {vs'' : List ℤ} {ks'' : List ℕ} (r : Lp.LayeredReply) → Whole top low ids os' os'' vs' vs'' ks' ks'' r
+      pub asked_so : {os'' : List ℕ} {vs'' : List ℤ} {ks'' : List ℕ} (r : Result Lw.LayeredWords Re.Refusal) → Whole top low ids os' os'' vs' vs'' ks' ks'' r
           → Leaves (page_by look ids (length os) (length vs) (length ks) (length cs)) r os os'' vs vs'' ks ks'' cs cs'
       asked_so r t =
           leaves r
@@ -199,10 +202,10 @@ module _ (top : ℕ → Outcome Look) (ids : List ℕ) where
 
       -- and where it was not
       pub settled_so : some_absent (take (length ids) ks') ≡ false
-          → Leaves (page_by look ids (length os) (length vs) (length ks) (length cs)) (Lp.LayeredReply.Done 0 w) os os' vs vs' ks ks' cs cs'
+          → Leaves (page_by look ids (length os) (length vs) (length ks) (length cs)) (Ok (counted 0 w)) os os' vs vs' ks ks' cs cs'
       settled_so h =
           let n : some_absent (map place_kind (map top ids)) ≡ false = sym (ap some_absent the_kinds) ∙ h in
-          leaves (Lp.LayeredReply.Done 0 w)
+          leaves (Ok (counted 0 w))
           (in_os ∙ ap (λ (l : List ℕ). l ++ drop (length ids) os)
           (none_laid top low nt nl layered_ordinal place_ordinal (λ id e. (below top low nt nl id e).ordinal) (λ id e. (above top low nt nl id e).ordinal) ids n))
           (in_vs ∙ ap (λ (l : List ℤ). l ++ drop (length ids) vs)

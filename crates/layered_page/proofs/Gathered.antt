@@ -1,7 +1,7 @@
 -- The absent ids of a part are gathered with their places, and what is answered for them is put there. Assumes nothing.
 use Rattle.format.specs.Kit.{◌≡◌, refl, sym, ap, ap₂, ◌∙◌, true, false, cond, List, [], ◌∷◌, ◌++◌, append_assoc, ℕ, zero, suc, ◌+◌, ◌-◌, ◌≤◌, ◌<◌, add-one}
 use Rattle.format.specs.Kit.{sub-zero, zero-add, arith, eqb, ℤ}
-use Rattle.format.specs.Kit.{length, drop, get_or, set, take, length-set, drop-cons, drop_of_length-le, take-suc-set, eq-eqb, ne_eqb, sets}
+use Rattle.format.specs.Kit.{length, drop, get_or, set, take, length-set, drop-cons, drop_of_length-le, take-suc-set, sets}
 use lib.Seq.{take-set-le}
 use Rattle.laws.proofs.Cases.{true_or}
 use Rattle.laws.proofs.Stores.{sets_front}
@@ -43,13 +43,6 @@ module _ (k id i : ℕ) (ks ids : List ℕ) where
 no_places : (i : ℕ) → absent_places i [] ≡ []
 unfolding absent_places
 no_places i = refl
-
--- one is counted, or none
-pub one_there : (k n : ℕ) → k ≡ 1 → n + 1 ≡ cond (eqb k 1) (n + 1) n
-one_there k n e = rw (eq-eqb k 1 e) refl
-
-pub none_there : (k n : ℕ) → (k ≡ 1 → ⊥) → n ≡ cond (eqb k 1) (n + 1) n
-none_there k n e = rw (ne_eqb k 1 e) refl
 
 -- ---- the loop
 

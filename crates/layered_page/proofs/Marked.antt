@@ -1,5 +1,5 @@
 -- The columns by the kinds of the correction's page, and whether an id is absent there. Assumes nothing.
-use Rattle.format.specs.Kit.{◌≡◌, refl, sym, ap, ap₂, ◌∙◌, Bool, true, false, ◌||◌, List, [], ◌∷◌, map, ℕ, ◌+◌, ◌≤◌, ◌<◌, add-one, arith, eqb}
+use Rattle.format.specs.Kit.{◌≡◌, refl, sym, ap, ap₂, ◌∙◌, Bool, true, false, ◌||◌, List, [], ◌∷◌, map, ℕ, ◌+◌, ◌≤◌, ◌<◌, add-one, eqb}
 use Rattle.format.specs.Kit.{length, drop, get_or, set, drop-cons, drop_of_length-le, sets, eq-eqb, ne_eqb}
 use Rattle.format.specs.Stores.{Fill}
 use Rattle.laws.proofs.Stores.{begun, one_more, filled}

@@ -8,8 +8,9 @@ use Rattle.format.specs.LookUp.{Look}
 use Rattle.format.specs.Page.{place_kind, place_ordinal, place_value, page_words}
 use Rattle.format.specs.Layered.{LayeredLook}
 use Rattle.format.specs.LayeredPage.{layered_kind, layered_ordinal, layered_value, machine_words, correction_words, sum_of}
-use Rattle.layered.specs.declared.LayeredReply as Lp
 use Rattle.layered_page.specs.Pages.{both, Laid, Under, Above, Whole}
+use Rattle.std.specs.Prelude.{Ok}
+use Rattle.layered.specs.Answers.{counted}
 
 module _ {A B : Type 0} (h : A → B) where
   map_append : (xs ys : List A) → map h (xs ++ ys) ≡ map h xs ++ map h ys
@@ -219,7 +220,7 @@ module _ (top low : ℕ → Outcome Look) (ids : List ℕ) where
     pub ks_kept : Above top ids os₀ vs₀ ks₀ → (length ks ≡ length ks₀) × (length ids ≤ length ks₀)
     ks_kept t = kept layered_kind place_kind ks₀ ks t.in_kinds g.in_kinds
 
-    pub ends : length ids ≤ i → Whole top low ids os₀ os vs₀ vs ks₀ ks (Lp.LayeredReply.Done w k)
+    pub ends : length ids ≤ i → Whole top low ids os₀ os vs₀ vs ks₀ ks (Ok (counted w k))
     unfolding page_words
     ends h =
         let t : take i ids ≡ ids = take_all i ids h in

@@ -1,6 +1,6 @@
 -- The ids of a page that are absent in the correction: kind 1. Assumes nothing.
 use Rattle.std.specs.Prelude.{◌+◌, ◌||◌, ◌∷◌}
-use Rattle.format.specs.Kit.{ℕ, suc, Bool, true, false, cond, List, [], eqb, leb, set}
+use Rattle.format.specs.Kit.{ℕ, suc, Bool, false, cond, List, [], eqb, leb, set}
 use Rattle.format.specs.Refusals.{Outcome}
 use Rattle.format.specs.LookUp.{Look}
 use Rattle.format.specs.Page.{place_words}

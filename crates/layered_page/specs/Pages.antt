@@ -9,8 +9,10 @@ use Rattle.format.specs.Layered.{LayeredLook, on_top}
 use Rattle.format.specs.LayeredPage.{layered_kind, layered_ordinal, layered_value, layered_column, machine_words, correction_words, sum_of}
 use Rattle.format.specs.LayeredPage.{layered_reply, layered_after}
 use Rattle.layered.specs.Answers.{layered_reply_of}
-use Rattle.layered.specs.declared.LayeredReply as Lp
 use Rattle.layered_page.specs.Absent.{put_all, lost_words}
+use Rattle.std.specs.declared.result.Result.{Result}
+use Rattle.answers.specs.declared.Refusal as Re
+use Rattle.layered.specs.declared.LayeredWords as Lw
 
 -- an id in both
 abbrev pub both : (ℕ → Outcome Look) → (ℕ → Outcome Look) → ℕ → LayeredLook
@@ -65,7 +67,7 @@ pub record Above (top : ℕ → Outcome Look) (ids os : List ℕ) (vs : List ℤ
   pub in_values : vs ≡ map place_value (map top ids) ++ drop (length ids) vs
   pub in_kinds : ks ≡ map place_kind (map top ids) ++ drop (length ids) ks
 
-pub record Whole (top low : ℕ → Outcome Look) (ids os os' : List ℕ) (vs vs' : List ℤ) (ks ks' : List ℕ) (r : Lp.LayeredReply) : Type 0 where
+pub record Whole (top low : ℕ → Outcome Look) (ids os os' : List ℕ) (vs vs' : List ℤ) (ks ks' : List ℕ) (r : Result Lw.LayeredWords Re.Refusal) : Type 0 where
   pub in_ordinals : os' ≡ map layered_ordinal (map (both top low) ids) ++ drop (length ids) os
   pub in_values : vs' ≡ map layered_value (map (both top low) ids) ++ drop (length ids) vs
   pub in_kinds : ks' ≡ map layered_kind (map (both top low) ids) ++ drop (length ids) ks
@@ -73,7 +75,7 @@ pub record Whole (top low : ℕ → Outcome Look) (ids os os' : List ℕ) (vs vs
       ≡ done (sum_of machine_words (map (both top low) ids) % 2 ^ 64, sum_of correction_words (map (both top low) ids) % 2 ^ 64)
 
 -- the reply, and each list
-abbrev pub Leaves : Outcome (List LayeredLook) → Lp.LayeredReply → List ℕ → List ℕ → List ℤ → List ℤ → List ℕ → List ℕ → List ℕ → List ℕ → Type 0
+abbrev pub Leaves : Outcome (List LayeredLook) → Result Lw.LayeredWords Re.Refusal → List ℕ → List ℕ → List ℤ → List ℤ → List ℕ → List ℕ → List ℕ → List ℕ → Type 0
 Leaves p r os os' vs vs' ks ks' cs cs' =
     (layered_reply_of r ≡ layered_reply p)
     × ((os' ≡ layered_after layered_ordinal p os) × ((vs' ≡ layered_after layered_value p vs)

@@ -12,15 +12,15 @@ ghost use Rattle.layered_page.specs.Absent.{column_by, some_absent};
 ghost use Rattle.layered_page.specs.Pages.{Leaves};
 
 use answers::Refusal;
-use column::{Column, Opening};
-use layered::LayeredReply;
+use column::Column;
+use layered::LayeredWords;
 
 mod under;
 
 // The kind of an absent id, as a page has it.
 const ABSENT: u8 = answers::ABSENT as u8;
 
-// The columns' numbers as a list of columns has them.
+// The columns' numbers as a list of columns has them. (Numbers, and no `layered::Layer`: C lends the list as bytes.)
 const MACHINE: u8 = 0;
 
 const CORRECTION: u8 = 1;
@@ -34,7 +34,7 @@ fn column_by(kind: u8) -> u8
     if kind == ABSENT { MACHINE } else { CORRECTION }
 }
 
-// Whether an id is absent, or one before it was.
+// Whether an id is absent, or one before it was. (No branch: the loop of `mark` takes several kinds at once.)
 fn either(some: bool, kind: u8) -> bool
     ensures { result ≡ (some || kind == 1) }
 {
@@ -48,12 +48,10 @@ fn mark(columns: &mut [u8], kinds: &[u8], n: usize) -> bool
         × (columns.new ≡ sets columns.old 0 (map column_by (take n kinds.now))) }
 {
     let mut some = false;
-    let mut i: usize = 0;
-    while i < n {
+    for i in 0..n {
         let kind = kinds[i];
         columns[i] = column_by(kind);
         some = either(some, kind);
-        i += 1;
     }
     some
 }
@@ -67,17 +65,18 @@ fn roomy(n: usize, ordinals: usize, values: usize, kinds: usize, columns: usize)
     (n <= ordinals) & (n <= values) & (n <= kinds) & (n <= columns)
 }
 
-// A column that was opened before, or any numbers in its place: 10, then 11.
-fn tested(bytes: &[u8], column: Column) -> Opening
+// A column that was opened before, or any numbers in its place: 10, then 11. (`column`'s own test of it is not called: with a second caller it
+// would be inlined into neither; docs/DECISIONS.md, "Speed".)
+fn tested(bytes: &[u8], column: Column) -> Result<Column, Refusal>
     ensures { opened_of result ≡ judged_as bytes.now (column_of column) }
 {
     if !column::head_ok(column.head) {
-        return Opening::Refused(Refusal::Header);
+        return Err(Refusal::Header);
     }
     if !column::length_ok(bytes, column) {
-        return Opening::Refused(Refusal::Length);
+        return Err(Refusal::Length);
     }
-    Opening::Open(column)
+    Ok(column)
 }
 
 // Each place by the correction, and where the id is absent there by the machine column, which is not opened where none is; and the sums of words.
@@ -89,7 +88,7 @@ pub fn look_up_layered_page(
     values: &mut [i64],
     kinds: &mut [u8],
     columns: &mut [u8],
-) -> LayeredReply
+) -> Result<LayeredWords, Refusal>
     ensures { Leaves (layered_page editions machine.now correction.now ids.now (length ordinals.old)
         (length values.old) (length kinds.old) (length columns.old)) result ordinals.old
         ordinals.new values.old values.new kinds.old kinds.new columns.old
@@ -97,15 +96,15 @@ pub fn look_up_layered_page(
 {
     let n = ids.len();
     if !roomy(n, ordinals.len(), values.len(), kinds.len(), columns.len()) {
-        return LayeredReply::Refused(Refusal::Buffer(n as u64));
+        return Err(Refusal::Buffer(n as u64));
     }
     let top = Column::open(correction);
     let counted = page::fill_by(ordinals, values, kinds, ids, correction, top);
     if !mark(columns, kinds, n) {
-        return LayeredReply::Done {
+        return Ok(LayeredWords {
             machine_words: 0,
             correction_words: counted,
-        };
+        });
     }
     let bottom = Column::open(machine);
     under::fill_under(
@@ -124,7 +123,7 @@ pub fn look_up_layered_page_in(
     values: &mut [i64],
     kinds: &mut [u8],
     columns: &mut [u8],
-) -> LayeredReply
+) -> Result<LayeredWords, Refusal>
     ensures { Leaves (layered_page_in machine.now (column_of machine_column) correction.now (column_of correction_column)
         ids.now (length ordinals.old) (length values.old) (length kinds.old)
         (length columns.old)) result ordinals.old ordinals.new values.old values.new
@@ -132,15 +131,15 @@ pub fn look_up_layered_page_in(
 {
     let n = ids.len();
     if !roomy(n, ordinals.len(), values.len(), kinds.len(), columns.len()) {
-        return LayeredReply::Refused(Refusal::Buffer(n as u64));
+        return Err(Refusal::Buffer(n as u64));
     }
     let top = tested(correction, correction_column);
     let counted = page::fill_by(ordinals, values, kinds, ids, correction, top);
     if !mark(columns, kinds, n) {
-        return LayeredReply::Done {
+        return Ok(LayeredWords {
             machine_words: 0,
             correction_words: counted,
-        };
+        });
     }
     let bottom = tested(machine, machine_column);
     under::fill_under(

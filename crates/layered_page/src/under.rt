@@ -6,16 +6,17 @@ ghost use Rattle.page.specs.Openings.{look_by, Fit};
 ghost use Rattle.layered_page.specs.Absent.{absent_ids, absent_places, put_all, lost_words};
 ghost use Rattle.layered_page.specs.Pages.{Numbered, Laid, Within, Spread, Answers, Under, Above, Whole};
 
-use column::Opening;
-use layered::LayeredReply;
+use super::ABSENT;
+use answers::Refusal;
+use column::Column;
+use layered::LayeredWords;
 
 // So many places of the page are asked for at once.
 const PART: usize = 256;
 
-const ABSENT: u8 = answers::ABSENT as u8;
-
 // ---- one part
 
+// One more where the id is absent. (A function of its own, so that `gather` has no branch.)
 fn one_more(n: usize, kind: u8) -> usize
     requires { n < 18446744073709551615 }
     ensures { result ≡ (if nat_eq kind 1 then n + 1 else n) }
@@ -30,12 +31,10 @@ fn gather(batch: &mut [u32], places: &mut [usize], ids: &[u32], kinds: &[u8]) ->
         × (take result places.new ≡ absent_places 0 kinds.now) }
 {
     let mut n: usize = 0;
-    let mut i: usize = 0;
-    while i < ids.len() {
-        batch[n] = ids[i];
+    for (i, id) in ids.iter().enumerate() {
+        batch[n] = *id;
         places[n] = i;
         n = one_more(n, kinds[i]);
-        i += 1;
     }
     n
 }
@@ -55,19 +54,17 @@ fn scatter(
         × (values.new ≡ put_all values.old places.now below_values.now)
         × (kinds.new ≡ put_all kinds.old places.now below_kinds.now) }
 {
-    let mut i: usize = 0;
-    while i < places.len() {
-        let at = places[i];
+    for (i, place) in places.iter().enumerate() {
+        let at = *place;
         let value = below_values[i];
         ordinals[at] = below_ordinals[i];
         values[at] = value;
         kinds[at] = below_kinds[i];
-        i += 1;
     }
 }
 
 // The words of one id.
-fn words_of(bytes: &[u8], opening: Opening, id: u32) -> u64
+fn words_of(bytes: &[u8], opening: Result<Column, Refusal>, id: u32) -> u64
     requires { Fit bytes.now opening }
     ensures { result ≡ place_words (look_by bytes.now (opened_of opening) id) % 2 ^ 64 }
 {
@@ -79,25 +76,22 @@ fn words_of(bytes: &[u8], opening: Opening, id: u32) -> u64
 }
 
 // The words that were counted in the correction for ids that the machine column refuses: a refusal counts none.
-fn lost(kinds: &[u8], ids: &[u32], bytes: &[u8], opening: Opening) -> u64
+fn lost(kinds: &[u8], ids: &[u32], bytes: &[u8], opening: Result<Column, Refusal>) -> u64
     requires { (Fit bytes.now opening) × (length ids.now ≤ length kinds.now) }
     ensures { result ≡ lost_words (look_by bytes.now (opened_of opening)) kinds.now ids.now % 2 ^ 64 }
 {
     let mut words: u64 = 0;
-    let mut i: usize = 0;
-    while i < ids.len() {
+    for (i, id) in ids.iter().enumerate() {
         if kinds[i] <= ABSENT {
-            i += 1;
             continue;
         }
-        words = std::num::wrapping_add_u64(words, words_of(bytes, opening, ids[i]));
-        i += 1;
+        words = std::num::wrapping_add_u64(words, words_of(bytes, opening, *id));
     }
     words
 }
 
 // The words of a part: the machine column's, and those that do not count in the correction.
-#[derive(Clone, Copy)]
+#[derive(Clone, Copy, Debug, PartialEq, Eq)]
 struct Counts {
     machine: u64,
     lost: u64,
@@ -111,9 +105,9 @@ fn answer(
     places: &[usize],
     ids: &[u32],
     machine: &[u8],
-    bottom: Opening,
+    bottom: Result<Column, Refusal>,
     correction: &[u8],
-    top: Opening,
+    top: Result<Column, Refusal>,
 ) -> Counts
     requires { (length ids.now ≤ 256) × (length places.now ≡ length ids.now) × (Within places.now ordinals.old values.old kinds.old)
         × (Fit machine.now bottom) × (Fit correction.now top) }
@@ -154,9 +148,9 @@ fn part(
     kinds: &mut [u8],
     ids: &[u32],
     machine: &[u8],
-    bottom: Opening,
+    bottom: Result<Column, Refusal>,
     correction: &[u8],
-    top: Opening,
+    top: Result<Column, Refusal>,
 ) -> Counts
     requires { (length ids.now ≤ 256) × (Fit machine.now bottom) × (Fit correction.now top)
         × (Numbered (look_by correction.now (opened_of top))) × (Numbered (look_by machine.now (opened_of bottom)))
@@ -187,7 +181,7 @@ fn part_end(i: usize, n: usize) -> usize
     requires { i ≤ n }
     ensures { result ≡ min n (i + 256) }
 {
-    if n - i < PART { n } else { i + PART }
+    i + (n - i).min(PART)
 }
 
 // Both columns' answers in the places of the ids, where the correction's stand; so many words were counted there.
@@ -197,11 +191,11 @@ pub fn fill_under(
     kinds: &mut [u8],
     ids: &[u32],
     machine: &[u8],
-    bottom: Opening,
+    bottom: Result<Column, Refusal>,
     correction: &[u8],
-    top: Opening,
+    top: Result<Column, Refusal>,
     counted: u64,
-) -> LayeredReply
+) -> Result<LayeredWords, Refusal>
     requires { (Fit machine.now bottom) × (Fit correction.now top)
         × (Numbered (look_by correction.now (opened_of top))) × (Numbered (look_by machine.now (opened_of bottom)))
         × (Above (look_by correction.now (opened_of top)) ids.now ordinals.old values.old kinds.old)
@@ -213,6 +207,7 @@ pub fn fill_under(
     let mut below: u64 = 0;
     let mut above = counted;
     let mut i: usize = 0;
+    // No `chunks_mut`: of what is stored through it a proof knows the length alone.
     while i < n {
         let end = part_end(i, n);
         let counts = part(
@@ -229,8 +224,8 @@ pub fn fill_under(
         above = std::num::wrapping_sub_u64(above, counts.lost);
         i = end;
     }
-    LayeredReply::Done {
+    Ok(LayeredWords {
         machine_words: below,
         correction_words: above,
-    }
+    })
 }

@@ -8,18 +8,21 @@ use Rattle.format.specs.Layered.{correction}
 use Rattle.format.specs.LayeredReading.{next_of_both, layered_steps, LayeredRead, read_to, refused_read, both_then, answering_from, column_from, column_from_in}
 use Rattle.format.specs.LayeredReading.{read_layered, read_layered_in, layered_read_reply, layered_read_after}
 use Rattle.layered_reading.specs.Parts.{read_layered_steps}
-use Rattle.layered.specs.declared.LayeredReadout as Lr
 use Rattle.layered_reading.specs.Buffers.{RefusedAs, Leaves}
+use Rattle.std.specs.Prelude.{Ok, Err}
+use Rattle.std.specs.declared.result.Result.{Result}
+use Rattle.answers.specs.declared.Readout as Ro
+use Rattle.layered.specs.declared.LayerRefusal as Rf
 
-pub leaves_as : (o p : LayeredRead) (r : Lr.LayeredReadout) (ids ids' : List ℕ) (vs vs' : List ℤ) (cs cs' : List ℕ) → o ≡ p
+pub leaves_as : (o p : LayeredRead) (r : Result Ro.Readout Rf.LayerRefusal) (ids ids' : List ℕ) (vs vs' : List ℤ) (cs cs' : List ℕ) → o ≡ p
     → Leaves p r ids ids' vs vs' cs cs' → Leaves o r ids ids' vs vs' cs cs'
 leaves_as o p r ids ids' vs vs' cs cs' e h = rw e h
 
-pub refused_leaves : (o : LayeredRead) (r : Lr.LayeredReadout) (ids : List ℕ) (vs : List ℤ) (cs : List ℕ) → RefusedAs o r → Leaves o r ids ids vs vs cs cs
+pub refused_leaves : (o : LayeredRead) (r : Result Ro.Readout Rf.LayerRefusal) (ids : List ℕ) (vs : List ℤ) (cs : List ℕ) → RefusedAs o r → Leaves o r ids ids vs vs cs cs
 unfolding layered_read_reply layered_read_after
-refused_leaves o (Lr.LayeredReadout.More n) ids vs cs e = absurd e
-refused_leaves o (Lr.LayeredReadout.Ended n) ids vs cs e = absurd e
-refused_leaves o (Lr.LayeredReadout.Refused layer why) ids vs cs e = rw e (refl, (refl, (refl, refl)))
+refused_leaves o (Ok (Ro.Readout.More n)) ids vs cs e = absurd e
+refused_leaves o (Ok (Ro.Readout.Ended n)) ids vs cs e = absurd e
+refused_leaves o (Err y) ids vs cs e = rw e (refl, (refl, (refl, refl)))
 
 -- the reading of two columns that are there
 abbrev pub read_both : List ℕ → List ℕ → ℕ → ℕ → Opened → Opened → LayeredRead

@@ -1,5 +1,5 @@
 -- How a layered reading ends: with one column alone, full, or at a refusal; and what the call then leaves. Assumes nothing.
-use Rattle.format.specs.Kit.{◌≡◌, refl, sym, ap, ap₂, ◌∙◌, ◌⊎◌, inl, inr, Bool, true, false, List, [], ◌∷◌, ◌++◌, map, ℕ, zero, suc, ◌+◌, ◌-◌, ◌≤◌, ◌<◌}
+use Rattle.format.specs.Kit.{◌≡◌, refl, sym, ap, ◌∙◌, ◌⊎◌, inl, inr, Bool, true, false, List, ◌∷◌, ◌++◌, map, ℕ, zero, suc, ◌-◌, ◌≤◌, ◌<◌}
 use Rattle.format.specs.Kit.{arith, ℤ, length, length-map, drop, sets, replicate, leb}
 use Rattle.format.specs.Refusals.{Outcome, done, refused, and_then}
 use Rattle.format.specs.Opening.{Opened}

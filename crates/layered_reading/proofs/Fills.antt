@@ -1,19 +1,18 @@
 -- A buffer that a reading of one column filled, and the end of a layered reading in the lists. Assumes nothing.
-use Rattle.format.specs.Kit.{◌≡◌, refl, sym, ap, ◌∙◌, ◌⊎◌, inl, inr, Bool, true, false, List, [], ◌∷◌, ◌++◌, append-nil, append_assoc, map, ℕ, zero, suc}
+use Rattle.format.specs.Kit.{◌≡◌, refl, sym, ap, ◌∙◌, ◌⊎◌, inl, inr, Bool, true, false, List, [], ◌++◌, append-nil, append_assoc, ℕ, zero, suc}
 use Rattle.format.specs.Kit.{◌+◌, ◌-◌, ◌≤◌}
-use Rattle.format.specs.Kit.{◌<◌, arith, ℤ, length, length-append, length-map, length-drop, take, take_at, take_all, drop, drop-drop, drop_of_length-le}
+use Rattle.format.specs.Kit.{◌<◌, arith, ℤ, length, length-map, length-drop, take, take_at, take_all, drop, drop-drop, drop_of_length-le}
 use Rattle.format.specs.Kit.{le_refl}
 use Rattle.format.specs.Kit.{sets, sets-eq, replicate, put_mid, post_of, Post-is}
-use Rattle.format.specs.Limits.{max_id}
 use Rattle.format.specs.Refusals.{Outcome, done, refused, and_then}
 use Rattle.format.specs.Opening.{Opened}
 use Rattle.format.specs.Next.{Candidate, candidate_at, no_candidate, next_steps}
-use Rattle.format.specs.ReadFrom.{Readout, pair_then, answered, is_none, pairs_from, read_steps, readout_reply, readout_after}
+use Rattle.format.specs.ReadFrom.{answered, pairs_from, read_steps, readout_reply, readout_after}
 use Rattle.format.specs.Layered.{Layer}
 use Rattle.laws.proofs.Cases.{false_true}
 use Rattle.format.specs.Layered.{layer_number}
-use Rattle.format.specs.LayeredReading.{LayeredNext, refused_next, next_from, LayeredReading, stopped, none_next, layered_steps}
-use Rattle.format.specs.LayeredReading.{pair_id, pair_value, pair_column}
+use Rattle.format.specs.LayeredReading.{LayeredNext, refused_next, next_from, stopped, none_next, layered_steps}
+use Rattle.format.specs.LayeredReading.{pair_id}
 use Rattle.layered_reading.specs.Turns.{answered_next}
 use Rattle.layered_reading.specs.Parts.{Holds, Alone, Stopped, Refuses}
 use Rattle.laws.proofs.LayeredReadings.{at_refused}

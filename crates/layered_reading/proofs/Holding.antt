@@ -5,10 +5,10 @@ use Rattle.format.specs.Limits.{max_id}
 use Rattle.format.specs.Refusals.{Outcome, done, refused}
 use Rattle.format.specs.Opening.{Opened}
 use Rattle.format.specs.Next.{Candidate, candidate_at, no_candidate, next_steps}
-use Rattle.format.specs.ReadFrom.{Readout, no_more, is_none, answered, goes_on, pairs_from}
+use Rattle.format.specs.ReadFrom.{is_none, goes_on, pairs_from}
 use Rattle.laws.proofs.Cases.{below_or, false_true}
 use Rattle.laws.proofs.NextKept.{none_past}
-use Rattle.laws.proofs.BufferedPairs.{first_of, none_of}
+use Rattle.laws.proofs.BufferedPairs.{first_of}
 use Rattle.layered_reading.specs.Parts.{Holds}
 
 -- a place's element in front of those after it

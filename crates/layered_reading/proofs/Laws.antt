@@ -10,9 +10,10 @@ use Rattle.layered_reading.proofs.Holding.{has_first, whether_none, is_none_lem}
 use Rattle.answers.specs.declared.Refusal as Re
 use Rattle.answers.specs.Replies.{refused_as}
 use Rattle.layered.specs.declared.Layer as La
-use Rattle.layered.specs.declared.LayeredReadout as Lr
 use Rattle.layered_reading.specs.declared.Buffer.{Buffer}
 use Rattle.layered_reading.specs.Buffers.{Loose, Fresh, BelowRefused}
+use Rattle.std.specs.Prelude.{Err}
+use Rattle.layered.specs.Answers.{refused_in}
 
 -- ---- a buffer
 
@@ -41,11 +42,11 @@ module _ (c : List ℕ) (y : Opened) (t : ℕ) (why : Re.Refusal) where
   answering (done x) e = refl
   answering (refused n w) e = false_true e
 
-  pub below_machine : answered (next_steps c y t) ≡ true → BelowRefused c y t why (Lr.LayeredReadout.Refused La.Layer.Machine why)
+  pub below_machine : answered (next_steps c y t) ≡ true → BelowRefused c y t why (Err (refused_in La.Layer.Machine why))
   unfolding both_then answering_from
   below_machine a read = rw (answering (next_steps c y t) a) refl
 
   pub below_correction : (above : Re.Refusal) → next_steps c y t ≡ refused_as above
-      → BelowRefused c y t why (Lr.LayeredReadout.Refused La.Layer.Correction above)
+      → BelowRefused c y t why (Err (refused_in La.Layer.Correction above))
   unfolding both_then answering_from and_then
   below_correction above e read = rw e refl

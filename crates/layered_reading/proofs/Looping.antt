@@ -1,5 +1,7 @@
 -- The invariant of the loop over both columns, its turns and its ends. Assumes nothing.
-use Rattle.format.specs.Kit.{◌≡◌, refl, sym, ap, ◌∙◌, Bool, true, false, ◌&&◌, List, ℕ, ◌+◌, ◌≤◌, ◌<◌, arith, ℤ, length, eqb, eq-eqb, eqb-true}
+use Rattle.std.specs.Prelude.{Ok}
+use Rattle.std.specs.declared.result.Result.{Result}
+use Rattle.format.specs.Kit.{◌≡◌, refl, sym, ap, ◌∙◌, Bool, true, false, ◌&&◌, List, ℕ, ◌≤◌, ◌<◌, arith, ℤ, length, eqb, eq-eqb, eqb-true}
 use Rattle.format.specs.Limits.{max_id}
 use Rattle.format.specs.Refusals.{done}
 use Rattle.format.specs.Opening.{Opened}
@@ -8,21 +10,21 @@ use Rattle.format.specs.ReadFrom.{is_none}
 use Rattle.format.specs.Layered.{machine, correction}
 use Rattle.laws.proofs.Cases.{equal_or, below_or, false_true}
 use Rattle.laws.proofs.Tests.{both_true}
-use Rattle.format.specs.LayeredReading.{LayeredNext, next_of_both}
+use Rattle.format.specs.LayeredReading.{next_of_both}
 use Rattle.layered_reading.specs.Turns.{LayeredReads}
 use Rattle.layered_reading.specs.Parts.{Holds, read_layered_steps}
-use Rattle.layered_reading.proofs.Turns.{stays, then}
+use Rattle.layered_reading.proofs.Turns.{then}
 use Rattle.layered_reading.proofs.Holding.{has_first, whether_none, is_none_lem, askable}
 use Rattle.layered_reading.proofs.Ending.{machine_alone, correction_alone, upper_refused, lower_refused, answered_both, not_at_end}
 use Rattle.layered_reading.proofs.Fills.{full}
 use Rattle.answers.specs.declared.Refusal as Re
 use Rattle.answers.specs.Replies.{refused_as}
+use Rattle.answers.specs.declared.Readout as Ro
 use Rattle.layered.specs.declared.Layer as La
-use Rattle.layered.specs.declared.LayeredReadout as Lr
+use Rattle.layered.specs.declared.LayerRefusal as Rf
 use Rattle.layered_reading.specs.declared.Buffer.{Buffer}
-use Rattle.layered_reading.specs.declared.Filling as Fi
 use Rattle.layered_reading.specs.declared.Met.{Met}
-use Rattle.layered_reading.specs.Buffers.{Within, Loose, Fresh, Filled, Merges, Ends, Stops, Rests, Leaves}
+use Rattle.layered_reading.specs.Buffers.{Within, Loose, Fresh, Merges, Ends, StopsBy, Rests, Leaves}
 use Rattle.layered_reading.proofs.Steps.{ends_then, stops_end, ends_leave}
 
 -- ---- a buffer
@@ -93,42 +95,42 @@ module _ (m : List ℕ) (x : Opened) (c : List ℕ) (y : Opened) {room from : �
     {vs : List ℤ}
     {cs : List ℕ} (d : LayeredReads (next_of_both m x c y) room 0 from ids₀ vs₀ cs₀ i t ids vs cs) (li : room ≤ length ids₀) (lv : room ≤ length vs₀)
     (lc : room ≤ length cs₀) where
-  leaves_by : (r : Lr.LayeredReadout) (ids' : List ℕ) (vs' : List ℤ) (cs' : List ℕ) → Ends (next_of_both m x c y) room i t r ids ids' vs vs' cs cs'
+  leaves_by : (r : Result Ro.Readout Rf.LayerRefusal) (ids' : List ℕ) (vs' : List ℤ) (cs' : List ℕ) → Ends (next_of_both m x c y) room i t r ids ids' vs vs' cs cs'
       → Leaves (read_layered_steps m x c y from room) r ids₀ ids' vs₀ vs' cs₀ cs'
   leaves_by r ids' vs' cs' e =
       ends_leave m x c y room from ids₀ vs₀ cs₀ ids' vs' cs' li lv lc r
       (ends_then (next_of_both m x c y) room from ids₀ vs₀ cs₀ i t ids vs cs r ids' vs' cs' d e)
 
   -- the correction refuses,
-  pub correction_stops : (why : Re.Refusal) (r : Lr.LayeredReadout) → next_steps c y t ≡ refused_as why → Stops La.Layer.Correction (Fi.Filling.Refused why) i r
+  pub correction_stops : (why : Re.Refusal) (r : Result Ro.Readout Rf.LayerRefusal) → next_steps c y t ≡ refused_as why → StopsBy La.Layer.Correction why i r
       → Leaves (read_layered_steps m x c y from room) r ids₀ ids vs₀ vs cs₀ cs
   correction_stops why r e s =
       leaves_by r ids vs cs (stops_end (next_of_both m x c y) room i t ids vs cs La.Layer.Correction why r (upper_refused m x c y t _ _ e) s)
 
   -- or has no pair left,
-  pub machine_left : (r : Lr.LayeredReadout) (ids' : List ℕ) (vs' : List ℤ) (cs' : List ℕ) → next_steps c y t ≡ done no_candidate
+  pub machine_left : (r : Result Ro.Readout Rf.LayerRefusal) (ids' : List ℕ) (vs' : List ℤ) (cs' : List ℕ) → next_steps c y t ≡ done no_candidate
       → Rests machine m x room i t r ids ids' vs vs' cs cs' → Leaves (read_layered_steps m x c y from room) r ids₀ ids' vs₀ vs' cs₀ cs'
   machine_left r ids' vs' cs' e s = leaves_by r ids' vs' cs' (s (next_of_both m x c y) (machine_alone m x c y t e))
 
   module _ {uw : ℕ} {ci : List ℕ} {cv : List ℤ} {upper : Buffer} (uf : Fresh c y t uw ci cv upper) where
     -- or the machine column does,
-    pub machine_stops : (why : Re.Refusal) (r : Lr.LayeredReadout) → next_steps m x t ≡ refused_as why → Stops La.Layer.Machine (Fi.Filling.Refused why) i r
+    pub machine_stops : (why : Re.Refusal) (r : Result Ro.Readout Rf.LayerRefusal) → next_steps m x t ≡ refused_as why → StopsBy La.Layer.Machine why i r
         → Leaves (read_layered_steps m x c y from room) r ids₀ ids vs₀ vs cs₀ cs
     machine_stops why r e s =
         leaves_by r ids vs cs
         (stops_end (next_of_both m x c y) room i t ids vs cs La.Layer.Machine why r (lower_refused m x c y t _ _ uf.answers e) s)
 
-    pub correction_left : (r : Lr.LayeredReadout) (ids' : List ℕ) (vs' : List ℤ) (cs' : List ℕ) → next_steps m x t ≡ done no_candidate
+    pub correction_left : (r : Result Ro.Readout Rf.LayerRefusal) (ids' : List ℕ) (vs' : List ℤ) (cs' : List ℕ) → next_steps m x t ≡ done no_candidate
         → Rests correction c y room i t r ids ids' vs vs' cs cs' → Leaves (read_layered_steps m x c y from room) r ids₀ ids' vs₀ vs' cs₀ cs'
     correction_left r ids' vs' cs' e s = leaves_by r ids' vs' cs' (s (next_of_both m x c y) (correction_alone m x c y t e))
 
     module _ {lw : ℕ} {mi : List ℕ} {mv : List ℤ} {lower : Buffer} (lf : Fresh m x t lw mi mv lower) where
       -- or no place is left
-      pub fills_up : (n : ℕ) → n ≡ i → i ≡ room → is_spent upper ≡ false → Leaves (read_layered_steps m x c y from room) (Lr.LayeredReadout.More n) ids₀
+      pub fills_up : (n : ℕ) → n ≡ i → i ≡ room → is_spent upper ≡ false → Leaves (read_layered_steps m x c y from room) (Ok (Ro.Readout.More n)) ids₀
           ids vs₀ vs cs₀ cs
       fills_up n en e s =
           rw en
-          (leaves_by (Lr.LayeredReadout.More i) ids vs cs
+          (leaves_by (Ok (Ro.Readout.More i)) ids vs cs
           (full (next_of_both m x c y) room i t ids vs cs e (not_at_end m x c y t (not_spent uf s)) (answered_both m x c y t uf.answers lf.answers)))
 
       -- else both go on

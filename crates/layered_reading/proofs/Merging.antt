@@ -1,11 +1,11 @@
 -- One turn of a merge of two buffers: the pair that is taken, and what the buffers hold from the id after on. Assumes nothing.
-use Rattle.format.specs.Kit.{◌≡◌, refl, sym, ap, ◌∙◌, Bool, List, ℕ, zero, suc, ◌+◌, ◌-◌, ◌≤◌, ◌<◌, add-one, le_refl, arith, ℤ, pos, length, get_or, set, sets}
+use Rattle.format.specs.Kit.{◌≡◌, refl, Bool, List, ℕ, zero, suc, ◌+◌, ◌-◌, ◌≤◌, ◌<◌, add-one, le_refl, arith, ℤ, pos, length, get_or, set, sets}
 use Rattle.format.specs.Kit.{take, drop, drop-cons, replicate}
 use Rattle.format.specs.Refusals.{done}
 use Rattle.format.specs.Opening.{Opened}
 use Rattle.format.specs.Next.{candidate_at, next_steps}
 use Rattle.format.specs.Layered.{Layer, machine, correction}
-use Rattle.format.specs.LayeredReading.{LayeredPair, next_pair, next_of_both}
+use Rattle.format.specs.LayeredReading.{next_pair, next_of_both}
 use Rattle.layered_reading.specs.Parts.{Holds}
 use Rattle.laws.proofs.NextKept.{take_correction, take_tie, take_machine, candidate_from}
 use Rattle.layered_reading.specs.Runs.{run_target}

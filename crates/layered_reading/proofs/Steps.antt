@@ -18,24 +18,27 @@ use Rattle.answers.specs.declared.Refusal as Re
 use Rattle.answers.specs.Replies.{refusal_number, refusal_with, refused_as}
 use Rattle.layered.specs.Answers.{layer_of}
 use Rattle.layered.specs.declared.Layer as La
-use Rattle.layered.specs.declared.LayeredReadout as Lr
 use Rattle.layered.specs.Answers.{layered_readout_of}
 use Rattle.layered_reading.specs.Buffers.{Ends, StopsBy, Leaves}
+use Rattle.std.specs.Prelude.{Ok, Err}
+use Rattle.std.specs.declared.result.Result.{Result}
+use Rattle.answers.specs.declared.Readout as Ro
+use Rattle.layered.specs.declared.LayerRefusal as Rf
 
 -- ---- a part's end is the whole's
 
 pub ends_then : (next : ℕ → LayeredNext) (room t : ℕ) (ids : List ℕ) (vs : List ℤ) (cs : List ℕ) (i u : ℕ) (ids₁ : List ℕ) (vs₁ : List ℤ) (cs₁ : List ℕ)
-    (r : Lr.LayeredReadout) (ids' : List ℕ) (vs' : List ℤ) (cs' : List ℕ) → LayeredReads next room 0 t ids vs cs i u ids₁ vs₁ cs₁
+    (r : Result Ro.Readout Rf.LayerRefusal) (ids' : List ℕ) (vs' : List ℤ) (cs' : List ℕ) → LayeredReads next room 0 t ids vs cs i u ids₁ vs₁ cs₁
     → Ends next room i u r ids₁ ids' vs₁ vs' cs₁ cs' → Ends next room 0 t r ids ids' vs vs' cs cs'
-ends_then next room t ids vs cs i u ids₁ vs₁ cs₁ (Lr.LayeredReadout.More n) ids' vs' cs' d s =
+ends_then next room t ids vs cs i u ids₁ vs₁ cs₁ (Ok (Ro.Readout.More n)) ids' vs' cs' d s =
     stopped_then next room t ids vs cs i u ids₁ vs₁ cs₁ d n false ids' vs' cs' s
-ends_then next room t ids vs cs i u ids₁ vs₁ cs₁ (Lr.LayeredReadout.Ended n) ids' vs' cs' d s =
+ends_then next room t ids vs cs i u ids₁ vs₁ cs₁ (Ok (Ro.Readout.Ended n)) ids' vs' cs' d s =
     stopped_then next room t ids vs cs i u ids₁ vs₁ cs₁ d n true ids' vs' cs' s
-ends_then next room t ids vs cs i u ids₁ vs₁ cs₁ (Lr.LayeredReadout.Refused layer why) ids' vs' cs' d s =
-    refuses_then next room t ids vs cs i u ids₁ vs₁ cs₁ d (layer_of layer) (refusal_number why) (refusal_with why) ids' vs' cs' s
+ends_then next room t ids vs cs i u ids₁ vs₁ cs₁ (Err y) ids' vs' cs' d s =
+    refuses_then next room t ids vs cs i u ids₁ vs₁ cs₁ d (layer_of y.layer) (refusal_number y.why) (refusal_with y.why) ids' vs' cs' s
 
 -- a refusal by a column ends it
-pub stops_end : (next : ℕ → LayeredNext) (room i t : ℕ) (ids : List ℕ) (vs : List ℤ) (cs : List ℕ) (layer : La.Layer) (why : Re.Refusal) (r : Lr.LayeredReadout)
+pub stops_end : (next : ℕ → LayeredNext) (room i t : ℕ) (ids : List ℕ) (vs : List ℤ) (cs : List ℕ) (layer : La.Layer) (why : Re.Refusal) (r : Result Ro.Readout Rf.LayerRefusal)
     → next t ≡ refused_next (layer_of layer) (refusal_number why) (refusal_with why) → StopsBy layer why i r → Ends next room i t r ids ids vs vs cs cs
 stops_end next room i t ids vs cs layer why r e s =
     equal_or i 0
@@ -53,7 +56,7 @@ module _ (m : List ℕ) (x : Opened) (c : List ℕ) (y : Opened) (room t : ℕ) 
   few : (n : ℕ) (e : Bool) → Stopped next room 0 t ids vs cs n e ids' vs' cs' → n ≤ room
   few n e s = omega (arith, how_many next room t ids vs cs n e ids' vs' cs' s, few_pairs next room t)
 
-  stopped_leaves : (r : Lr.LayeredReadout) (n : ℕ) (e : Bool) → Stopped next room 0 t ids vs cs n e ids' vs' cs' → layered_readout_of r ≡ count_to n e
+  stopped_leaves : (r : Result Ro.Readout Rf.LayerRefusal) (n : ℕ) (e : Bool) → Stopped next room 0 t ids vs cs n e ids' vs' cs' → layered_readout_of r ≡ count_to n e
       → Leaves (read_layered_steps m x c y t room) r ids ids' vs vs' cs cs'
   unfolding layered_read_reply
   stopped_leaves r n e s k =
@@ -71,12 +74,12 @@ module _ (m : List ℕ) (x : Opened) (c : List ℕ) (y : Opened) (room t : ℕ) 
         ),
       )
 
-  pub ends_leave : (r : Lr.LayeredReadout) → Ends next room 0 t r ids ids' vs vs' cs cs' → Leaves (read_layered_steps m x c y t room) r ids ids' vs vs' cs cs'
+  pub ends_leave : (r : Result Ro.Readout Rf.LayerRefusal) → Ends next room 0 t r ids ids' vs vs' cs cs' → Leaves (read_layered_steps m x c y t room) r ids ids' vs vs' cs cs'
   unfolding layered_read_reply layered_read_after
-  ends_leave (Lr.LayeredReadout.More n) s = stopped_leaves (Lr.LayeredReadout.More n) n false s refl
-  ends_leave (Lr.LayeredReadout.Ended n) s = stopped_leaves (Lr.LayeredReadout.Ended n) n true s refl
-  ends_leave (Lr.LayeredReadout.Refused layer why) s =
-      rw (steps_refused m x c y t room (layer_of layer) _ _ s.refusal) (refl, (s.in_ids, (s.in_values, s.in_columns)))
+  ends_leave (Ok (Ro.Readout.More n)) s = stopped_leaves (Ok (Ro.Readout.More n)) n false s refl
+  ends_leave (Ok (Ro.Readout.Ended n)) s = stopped_leaves (Ok (Ro.Readout.Ended n)) n true s refl
+  ends_leave (Err z) s =
+      rw (steps_refused m x c y t room (layer_of z.layer) _ _ s.refusal) (refl, (s.in_ids, (s.in_values, s.in_columns)))
 
 -- ---- one column's pairs put into the lists from place i on
 
@@ -101,7 +104,7 @@ module _ (next : ℕ → LayeredNext) (room i t : ℕ) (ids : List ℕ) (vs : Li
       (ec ∙ ap (λ (k : ℕ). sets cs i (replicate k number)) z ∙ ap (λ (k : ℕ). sets cs i (replicate n k)) en)
 
   -- a refusal leaves the part, and so the lists, as they were
-  pub rest_refused : (why : Re.Refusal) (r : Lr.LayeredReadout) → next_steps bytes c t ≡ refused_as why
+  pub rest_refused : (why : Re.Refusal) (r : Result Ro.Readout Rf.LayerRefusal) → next_steps bytes c t ≡ refused_as why
       → pi ≡ readout_after (λ w. w.ids) (read_steps bytes c t (room - i)) (lent ids)
       → pv ≡ readout_after (λ w. w.values) (read_steps bytes c t (room - i)) (lent vs) → StopsBy layer why i r → Alone (layer_of layer) next bytes c t
       → Ends next room i t r ids (put_mid i (length ids - i) ids pi) vs (put_mid i (length vs - i) vs pv) cs cs

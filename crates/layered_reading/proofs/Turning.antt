@@ -1,7 +1,7 @@
 -- The invariant of a merge: where it begins, its turns, and where it ends. Assumes nothing.
-use Rattle.format.specs.Kit.{◌≡◌, refl, sym, ap, ◌∙◌, List, ℕ, suc, ◌+◌, ◌-◌, ◌≤◌, ◌<◌, add-one, arith, ℤ, pos, length, length-set, length-sets, get_or, take, drop, replicate}
+use Rattle.format.specs.Kit.{◌≡◌, refl, ap, ◌∙◌, List, ℕ, suc, ◌+◌, ◌-◌, ◌≤◌, ◌<◌, add-one, arith, ℤ, pos, length, length-set, length-sets, get_or, take, drop, replicate}
 use Rattle.format.specs.Opening.{Opened}
-use Rattle.format.specs.Layered.{Layer, machine, correction}
+use Rattle.format.specs.Layered.{Layer, correction}
 use Rattle.laws.proofs.Cases.{equal_or}
 use Rattle.format.specs.Layered.{layer_number}
 use Rattle.layered_reading.specs.Parts.{Holds}
@@ -9,7 +9,7 @@ use Rattle.layered_reading.proofs.Turns.{stays, takes, then}
 use Rattle.layered_reading.proofs.Merging.{Turn, correction_turn, tie_turn, merged_run}
 use Rattle.layered_reading.specs.declared.Buffer.{Buffer}
 use Rattle.layered_reading.specs.declared.Met.{Met}
-use Rattle.layered_reading.specs.Buffers.{Within, Lists, Merged, MergesTo, Merges}
+use Rattle.layered_reading.specs.Buffers.{Within, Lists, MergesTo, Merges}
 use Rattle.layered_reading.specs.Runs.{Put, RunTo, run_target}
 
 module _ (room start from : ℕ) (mi : List ℕ) (mv : List ℤ) (mh : Buffer) (ci : List ℕ) (cv : List ℤ) (ch : Buffer) (ids₀ : List ℕ) (vs₀ : List ℤ)

@@ -1,5 +1,6 @@
 -- What a buffer holds of a column, what a merge of two leaves, and how a reading ends. Lists afterwards have a '. Assumes nothing.
-use Rattle.std.specs.Prelude.{◌≤◌, ◌<◌, ◌≡◌}
+use Rattle.std.specs.Prelude.{◌≤◌, ◌<◌, ◌≡◌, Ok, Err}
+use Rattle.std.specs.declared.result.Result.{Result}
 use Rattle.format.specs.Kit.{ℕ, true, false, List, ℤ, length}
 use Rattle.format.specs.Limits.{max_id}
 use Rattle.format.specs.Opening.{Opened, head_ok, length_ok}
@@ -12,12 +13,12 @@ use Rattle.format.specs.LayeredReading.{pair_id, pair_value, pair_column}
 use Rattle.layered_reading.specs.Turns.{LayeredReads}
 use Rattle.layered_reading.specs.Parts.{Holds, Stopped, Refuses, Alone}
 use Rattle.answers.specs.declared.Refusal as Re
+use Rattle.answers.specs.declared.Readout as Ro
 use Rattle.answers.specs.Replies.{refusal_number, refusal_with, refused_as}
-use Rattle.layered.specs.Answers.{layer_of, layered_readout_of}
+use Rattle.layered.specs.Answers.{layer_of, layered_readout_of, refused_in}
 use Rattle.layered.specs.declared.Layer as La
-use Rattle.layered.specs.declared.LayeredReadout as Lr
+use Rattle.layered.specs.declared.LayerRefusal as Rf
 use Rattle.layered_reading.specs.declared.Buffer.{Buffer}
-use Rattle.layered_reading.specs.declared.Filling as Fi
 use Rattle.layered_reading.specs.declared.Met.{Met}
 
 -- ---- one column's buffer
@@ -41,9 +42,9 @@ pub record Fresh (bytes : List ℕ) (c : Opened) (t want : ℕ) (is : List ℕ) 
   pub answers : answered (next_steps bytes c t) ≡ true
   pub some : 0 < want → h.at ≡ h.count → h.ended ≡ true
 
-abbrev pub Filled : List ℕ → Opened → ℕ → ℕ → List ℕ → List ℤ → Fi.Filling → Type 0
-Filled bytes c t want is vs (Fi.Filling.Held h) = Fresh bytes c t want is vs h
-Filled bytes c t want is vs (Fi.Filling.Refused why) = next_steps bytes c t ≡ refused_as why
+abbrev pub Filled : List ℕ → Opened → ℕ → ℕ → List ℕ → List ℤ → Result Buffer Re.Refusal → Type 0
+Filled bytes c t want is vs (Ok h) = Fresh bytes c t want is vs h
+Filled bytes c t want is vs (Err why) = next_steps bytes c t ≡ refused_as why
 
 -- ---- the lists
 
@@ -79,23 +80,19 @@ pub record Merges (room i t : ℕ) (mi : List ℕ) (mv : List ℤ) (mh : Buffer)
 
 -- ---- the end
 
-abbrev pub Ends : (ℕ → LayeredNext) → ℕ → ℕ → ℕ → Lr.LayeredReadout → List ℕ → List ℕ → List ℤ → List ℤ → List ℕ → List ℕ → Type 0
-Ends next room i t (Lr.LayeredReadout.More n) ids ids' vs vs' cs cs' = Stopped next room i t ids vs cs n false ids' vs' cs'
-Ends next room i t (Lr.LayeredReadout.Ended n) ids ids' vs vs' cs cs' = Stopped next room i t ids vs cs n true ids' vs' cs'
-Ends next room i t (Lr.LayeredReadout.Refused layer why) ids ids' vs vs' cs cs' =
-    Refuses next i t (layer_of layer) (refusal_number why) (refusal_with why) ids ids' vs vs' cs cs'
+abbrev pub Ends : (ℕ → LayeredNext) → ℕ → ℕ → ℕ → Result Ro.Readout Rf.LayerRefusal → List ℕ → List ℕ → List ℤ → List ℤ → List ℕ → List ℕ → Type 0
+Ends next room i t (Ok (Ro.Readout.More n)) ids ids' vs vs' cs cs' = Stopped next room i t ids vs cs n false ids' vs' cs'
+Ends next room i t (Ok (Ro.Readout.Ended n)) ids ids' vs vs' cs cs' = Stopped next room i t ids vs cs n true ids' vs' cs'
+Ends next room i t (Err r) ids ids' vs vs' cs cs' =
+    Refuses next i t (layer_of r.layer) (refusal_number r.why) (refusal_with r.why) ids ids' vs vs' cs cs'
 
 -- a refusal by a column, after i pairs
-abbrev pub StopsBy : La.Layer → Re.Refusal → ℕ → Lr.LayeredReadout → Type 0
-StopsBy layer why i r = (i ≡ 0 → r ≡ Lr.LayeredReadout.Refused layer why) × ((i ≡ 0 → ⊥) → r ≡ Lr.LayeredReadout.More i)
-
-abbrev pub Stops : La.Layer → Fi.Filling → ℕ → Lr.LayeredReadout → Type 0
-Stops layer (Fi.Filling.Held h) i r = Unit {0}
-Stops layer (Fi.Filling.Refused why) i r = StopsBy layer why i r
+abbrev pub StopsBy : La.Layer → Re.Refusal → ℕ → Result Ro.Readout Rf.LayerRefusal → Type 0
+StopsBy layer why i r = (i ≡ 0 → r ≡ Err (refused_in layer why)) × ((i ≡ 0 → ⊥) → r ≡ Ok (Ro.Readout.More i))
 
 -- ---- one column alone
 
-abbrev pub Rests : Layer → List ℕ → Opened → ℕ → ℕ → ℕ → Lr.LayeredReadout → List ℕ → List ℕ → List ℤ → List ℤ → List ℕ → List ℕ → Type 0
+abbrev pub Rests : Layer → List ℕ → Opened → ℕ → ℕ → ℕ → Result Ro.Readout Rf.LayerRefusal → List ℕ → List ℕ → List ℤ → List ℤ → List ℕ → List ℕ → Type 0
 Rests layer bytes c room i t r ids ids' vs vs' cs cs' =
     (next : ℕ → LayeredNext) → Alone layer next bytes c t → Ends next room i t r ids ids' vs vs' cs cs'
 
@@ -107,17 +104,17 @@ pub record Kept (bytes : List ℕ) (c : Opened) : Type 0 where
   pub whole : length_ok bytes c ≡ true
 
 -- a reply that is this refusal
-abbrev pub RefusedAs : LayeredRead → Lr.LayeredReadout → Type 0
-RefusedAs o (Lr.LayeredReadout.More n) = ⊥
-RefusedAs o (Lr.LayeredReadout.Ended n) = ⊥
-RefusedAs o (Lr.LayeredReadout.Refused layer why) = o ≡ refused_read (layer_of layer) (refusal_number why) (refusal_with why)
+abbrev pub RefusedAs : LayeredRead → Result Ro.Readout Rf.LayerRefusal → Type 0
+RefusedAs o (Ok (Ro.Readout.More n)) = ⊥
+RefusedAs o (Ok (Ro.Readout.Ended n)) = ⊥
+RefusedAs o (Err r) = o ≡ refused_read (layer_of r.layer) (refusal_number r.why) (refusal_with r.why)
 
 -- the machine column is refused, and the correction is asked first
-abbrev pub BelowRefused : List ℕ → Opened → ℕ → Re.Refusal → Lr.LayeredReadout → Type 0
+abbrev pub BelowRefused : List ℕ → Opened → ℕ → Re.Refusal → Result Ro.Readout Rf.LayerRefusal → Type 0
 BelowRefused c y t why r = (read : Opened → Opened → LayeredRead) → RefusedAs (both_then (answering_from c t y) (refused_as why) read) r
 
 -- the reply, and each list
-abbrev pub Leaves : LayeredRead → Lr.LayeredReadout → List ℕ → List ℕ → List ℤ → List ℤ → List ℕ → List ℕ → Type 0
+abbrev pub Leaves : LayeredRead → Result Ro.Readout Rf.LayerRefusal → List ℕ → List ℕ → List ℤ → List ℤ → List ℕ → List ℕ → Type 0
 Leaves o r ids ids' vs vs' cs cs' =
     (layered_readout_of r ≡ layered_read_reply o)
     × ((ids' ≡ layered_read_after pair_id o ids) × ((vs' ≡ layered_read_after pair_value o vs) × (cs' ≡ layered_read_after pair_column o cs)))

@@ -14,16 +14,16 @@ ghost use Rattle.column.specs.Opened.{column_of};
 ghost use Rattle.layered.specs.Answers.{layer_of};
 ghost use Rattle.read_from.specs.Blocks.{Roomy};
 ghost use Rattle.layered_reading.specs.Parts.{read_layered_steps};
-ghost use Rattle.layered_reading.specs.Buffers.{Within, Loose, Filled, Lists, Merges, StopsBy, Stops, Rests, Kept};
+ghost use Rattle.layered_reading.specs.Buffers.{Within, Loose, Filled, Lists, Merges, StopsBy, Rests, Kept};
 ghost use Rattle.layered_reading.specs.Buffers.{BelowRefused, Leaves};
 
 use answers::{Readout, Refusal};
-use column::{Column, Opening};
-use layered::{Layer, LayeredReadout};
+use column::Column;
+use layered::{Layer, LayerRefusal};
 
 mod runs;
 
-// The columns' numbers as a list of columns has them.
+// The columns' numbers as a list of columns has them. (Numbers, and no enum: C lends the list as bytes.)
 const MACHINE: u8 = 0;
 
 const CORRECTION: u8 = 1;
@@ -37,17 +37,11 @@ const PLACES: usize = 512;
 const FEW: usize = 16;
 
 // Of a buffer's pairs those from place `at` to place `count` are left; ended, where the column has none after them.
-#[derive(Clone, Copy)]
+#[derive(Clone, Copy, Debug, PartialEq, Eq)]
 struct Buffer {
     at: usize,
     count: usize,
     ended: bool,
-}
-
-#[derive(Clone, Copy)]
-enum Filling {
-    Held(Buffer),
-    Refused(Refusal),
 }
 
 // The column's pairs from the target on, as many as are wanted.
@@ -58,23 +52,21 @@ fn refill(
     column: Column,
     target: u64,
     want: usize,
-) -> Filling
+) -> Result<Buffer, Refusal>
     requires { (Roomy bytes.now (column_of column) want ids.old values.old) × (target ≤ max_id) }
     ensures { Filled bytes.now (column_of column) target want ids.new values.new result }
 {
-    let got = read_from::read_up_to(ids, values, bytes, column, want, target as u32);
-    match got {
-        Readout::More(n) => Filling::Held(Buffer {
+    match read_from::read_up_to(ids, values, bytes, column, want, target as u32)? {
+        Readout::More(n) => Ok(Buffer {
             at: 0,
             count: numbers::size(n),
             ended: false,
         }),
-        Readout::Ended(n) => Filling::Held(Buffer {
+        Readout::Ended(n) => Ok(Buffer {
             at: 0,
             count: numbers::size(n),
             ended: true,
         }),
-        Readout::Refused(why) => Filling::Refused(why),
     }
 }
 
@@ -87,16 +79,16 @@ fn renew(
     column: Column,
     target: u64,
     want: usize,
-) -> Filling
+) -> Result<Buffer, Refusal>
     requires { (Roomy bytes.now (column_of column) want ids.old values.old)
         × (Loose bytes.now (column_of column) target ids.old values.old held) }
     ensures { Filled bytes.now (column_of column) target want ids.new values.new result }
 {
     if held.at < held.count {
-        return Filling::Held(held);
+        return Ok(held);
     }
     if held.ended {
-        return Filling::Held(held);
+        return Ok(held);
     }
     refill(ids, values, bytes, column, target, want)
 }
@@ -106,7 +98,7 @@ fn wanted(count: usize, want: usize, i: usize) -> usize
     requires { (count ≤ 512) × (want ≤ 512) }
     ensures { (result ≤ want) × (0 < want → 0 < result) }
 {
-    lookup::smaller(want, FEW + count * want / 2 / (i / 2 + 1))
+    want.min(FEW + count * want / 2 / (i / 2 + 1))
 }
 
 // Whether the column has no pair left at all.
@@ -119,7 +111,7 @@ fn spent(held: Buffer) -> bool
 // ---- two buffers merged
 
 // How many pairs the lists have, the id after the last of them, and where each buffer is.
-#[derive(Clone, Copy)]
+#[derive(Clone, Copy, Debug, PartialEq, Eq)]
 struct Met {
     count: usize,
     target: u64,
@@ -161,6 +153,7 @@ fn merge(
     let mut target = from;
     let mut m = machine.at;
     let mut c = correction.at;
+    // (No `for`: a turn takes as many places as a run has.)
     while i < room {
         if m == machine.count {
             return Met {
@@ -179,7 +172,7 @@ fn merge(
             };
         }
         let x = correction_ids[c];
-        let end = m + lookup::smaller(machine.count - m, room - i);
+        let end = m + (machine.count - m).min(room - i);
         let four = runs::fours(
             ids,
             values,
@@ -231,10 +224,8 @@ fn mark(columns: &mut [u8], i: usize, end: usize, column: u8)
     requires { (i ≤ end) × (end ≤ length columns.old) }
     ensures { columns.new ≡ sets columns.old i (replicate (end - i) column) }
 {
-    let mut j = i;
-    while j < end {
+    for j in i..end {
         columns[j] = column;
-        j += 1;
     }
 }
 
@@ -248,22 +239,13 @@ fn number_of(layer: Layer) -> u8
 }
 
 // A column whose next candidate is refused: that is the call's refusal before the first pair, and its end after one.
-fn stopped(layer: Layer, why: Refusal, i: usize) -> LayeredReadout
+fn stopped(layer: Layer, why: Refusal, i: usize) -> Result<Readout, LayerRefusal>
     ensures { StopsBy layer why i result }
 {
     if i == 0 {
-        return LayeredReadout::Refused(layer, why);
+        return Err(LayerRefusal { layer, why });
     }
-    LayeredReadout::More(numbers::long(i))
-}
-
-fn refused_by(layer: Layer, got: Filling, i: usize) -> LayeredReadout
-    ensures { Stops layer got i result }
-{
-    match got {
-        Filling::Refused(why) => stopped(layer, why, i),
-        Filling::Held(_) => LayeredReadout::More(numbers::long(i)),
-    }
+    Ok(Readout::More(numbers::long(i)))
 }
 
 // All that is left, where the other column has no pair from the target on.
@@ -277,14 +259,14 @@ fn rest(
     room: usize,
     i: usize,
     target: u64,
-) -> LayeredReadout
+) -> Result<Readout, LayerRefusal>
     requires { (Lists room i ids.old values.old columns.old) × (head_ok (column_of column).head ≡ true)
         × (length_ok bytes.now (column_of column) ≡ true) }
     ensures { Rests (layer_of layer) bytes.now (column_of column) room i target result ids.old ids.new values.old
         values.new columns.old columns.new }
 {
     if numbers::wide32(Column::MAX_ID) < target {
-        return LayeredReadout::Ended(numbers::long(i));
+        return Ok(Readout::Ended(numbers::long(i)));
     }
     let got = read_from::read_up_to(
         &mut ids[i..],
@@ -294,18 +276,21 @@ fn rest(
         room - i,
         target as u32,
     );
-    match got {
+    let read = match got {
+        Ok(read) => read,
+        Err(why) => return stopped(layer, why, i),
+    };
+    match read {
         Readout::More(n) => {
             let end = i + numbers::size(n);
             mark(columns, i, end, number_of(layer));
-            LayeredReadout::More(numbers::long(end))
+            Ok(Readout::More(numbers::long(end)))
         }
         Readout::Ended(n) => {
             let end = i + numbers::size(n);
             mark(columns, i, end, number_of(layer));
-            LayeredReadout::Ended(numbers::long(end))
+            Ok(Readout::Ended(numbers::long(end)))
         }
-        Readout::Refused(why) => stopped(layer, why, i),
     }
 }
 
@@ -321,13 +306,13 @@ fn layered_steps(
     correction: &[u8],
     correction_column: Column,
     from: u32,
-) -> LayeredReadout
+) -> Result<Readout, LayerRefusal>
     requires { (Kept machine.now (column_of machine_column)) × (Kept correction.now (column_of correction_column)) × (from ≤ max_id) }
     ensures { Leaves (read_layered_steps machine.now (column_of machine_column) correction.now (column_of correction_column) from
         (min (length columns.old) (min (length ids.old) (length values.old)))) result ids.old
         ids.new values.old values.new columns.old columns.new }
 {
-    let room = lookup::smaller(columns.len(), lookup::smaller(ids.len(), values.len()));
+    let room = columns.len().min(ids.len().min(values.len()));
     let mut machine_ids = [0u32; PLACES];
     let mut machine_values = [0i64; PLACES];
     let mut correction_ids = [0u32; PLACES];
@@ -341,7 +326,7 @@ fn layered_steps(
     let mut i: usize = 0;
     let mut target = numbers::wide32(from);
     loop {
-        let want = lookup::smaller(PLACES, room - i);
+        let want = PLACES.min(room - i);
         let got = renew(
             &mut correction_ids,
             &mut correction_values,
@@ -351,8 +336,9 @@ fn layered_steps(
             target,
             wanted(top.count, want, i),
         );
-        let Filling::Held(upper) = got else {
-            return refused_by(Layer::Correction, got, i);
+        let upper = match got {
+            Ok(upper) => upper,
+            Err(why) => return stopped(Layer::Correction, why, i),
         };
         if spent(upper) {
             return rest(
@@ -376,8 +362,9 @@ fn layered_steps(
             target,
             want,
         );
-        let Filling::Held(lower) = got else {
-            return refused_by(Layer::Machine, got, i);
+        let lower = match got {
+            Ok(lower) => lower,
+            Err(why) => return stopped(Layer::Machine, why, i),
         };
         if spent(lower) {
             return rest(
@@ -393,7 +380,7 @@ fn layered_steps(
             );
         }
         if i == room {
-            return LayeredReadout::More(numbers::long(i));
+            return Ok(Readout::More(numbers::long(i)));
         }
         let met = merge(
             ids,
@@ -427,7 +414,12 @@ fn layered_steps(
 // ---- the calls
 
 // The refusal, where the machine column's header is refused: the correction's, if its first step is one.
-fn below_refused(correction: &[u8], column: Column, from: u32, why: Refusal) -> LayeredReadout
+fn below_refused(
+    correction: &[u8],
+    column: Column,
+    from: u32,
+    why: Refusal,
+) -> Result<Readout, LayerRefusal>
     requires { (Kept correction.now (column_of column)) × (from ≤ max_id) }
     ensures { BelowRefused correction.now (column_of column) from why result }
 {
@@ -442,8 +434,14 @@ fn below_refused(correction: &[u8], column: Column, from: u32, why: Refusal) -> 
         0,
     );
     match got {
-        Filling::Held(_) => LayeredReadout::Refused(Layer::Machine, why),
-        Filling::Refused(above) => LayeredReadout::Refused(Layer::Correction, above),
+        Ok(_) => Err(LayerRefusal {
+            layer: Layer::Machine,
+            why,
+        }),
+        Err(above) => Err(LayerRefusal {
+            layer: Layer::Correction,
+            why: above,
+        }),
     }
 }
 
@@ -457,19 +455,28 @@ pub fn read_layered_from_in(
     ids: &mut [u32],
     values: &mut [i64],
     columns: &mut [u8],
-) -> LayeredReadout
+) -> Result<Readout, LayerRefusal>
     ensures { Leaves (read_layered_in machine.now (column_of machine_column) correction.now (column_of correction_column) from
         (min (length columns.old) (min (length ids.old) (length values.old)))) result ids.old
         ids.new values.old values.new columns.old columns.new }
 {
     if !column::id_ok(from) {
-        return LayeredReadout::Refused(Layer::Correction, Refusal::Id);
+        return Err(LayerRefusal {
+            layer: Layer::Correction,
+            why: Refusal::Id,
+        });
     }
     if !column::head_ok(correction_column.head) {
-        return LayeredReadout::Refused(Layer::Correction, Refusal::Header);
+        return Err(LayerRefusal {
+            layer: Layer::Correction,
+            why: Refusal::Header,
+        });
     }
     if !column::length_ok(correction, correction_column) {
-        return LayeredReadout::Refused(Layer::Correction, Refusal::Length);
+        return Err(LayerRefusal {
+            layer: Layer::Correction,
+            why: Refusal::Length,
+        });
     }
     if !column::head_ok(machine_column.head) {
         return below_refused(correction, correction_column, from, Refusal::Header);
@@ -498,16 +505,15 @@ fn over_machine(
     ids: &mut [u32],
     values: &mut [i64],
     columns: &mut [u8],
-) -> LayeredReadout
+) -> Result<Readout, LayerRefusal>
     requires { (open_column editions correction.now ≡ done (column_of column)) × (leb from max_id ≡ true) }
     ensures { Leaves (read_layered editions machine.now correction.now from
         (min (length columns.old) (min (length ids.old) (length values.old)))) result ids.old
         ids.new values.old values.new columns.old columns.new }
 {
-    let opened = Column::open(machine);
-    match opened {
-        Opening::Refused(why) => below_refused(correction, column, from, why),
-        Opening::Open(below) => layered_steps(
+    match Column::open(machine) {
+        Err(why) => below_refused(correction, column, from, why),
+        Ok(below) => layered_steps(
             ids, values, columns, machine, below, correction, column, from,
         ),
     }
@@ -521,19 +527,22 @@ pub fn read_layered_from(
     ids: &mut [u32],
     values: &mut [i64],
     columns: &mut [u8],
-) -> LayeredReadout
+) -> Result<Readout, LayerRefusal>
     ensures { Leaves (read_layered editions machine.now correction.now from
         (min (length columns.old) (min (length ids.old) (length values.old)))) result ids.old
         ids.new values.old values.new columns.old columns.new }
 {
     if !column::id_ok(from) {
-        return LayeredReadout::Refused(Layer::Correction, Refusal::Id);
+        return Err(LayerRefusal {
+            layer: Layer::Correction,
+            why: Refusal::Id,
+        });
     }
-    let opened = Column::open(correction);
-    match opened {
-        Opening::Refused(why) => LayeredReadout::Refused(Layer::Correction, why),
-        Opening::Open(column) => over_machine(
-            machine, column, correction, from, ids, values, columns,
-        ),
+    match Column::open(correction) {
+        Err(why) => Err(LayerRefusal {
+            layer: Layer::Correction,
+            why,
+        }),
+        Ok(column) => over_machine(machine, column, correction, from, ids, values, columns),
     }
 }

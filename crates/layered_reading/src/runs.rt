@@ -2,8 +2,7 @@
 ghost use Rattle.std.specs.Prelude.{◌≡◌, ◌+◌, ◌-◌, ◌≤◌, ◌<◌, length, get_or, pos};
 ghost use Rattle.layered_reading.specs.Runs.{set_four, RunRoom, RunTo, run_target, Put};
 
-// The machine column's number in a list of columns.
-const MACHINE: u8 = 0;
+use super::MACHINE;
 
 // One pair in place i of the lists.
 pub fn put(
@@ -86,6 +85,7 @@ pub fn fours(
 {
     let mut k = m;
     let mut p = i;
+    // No range by fours: `ones` goes on at k, and how many are left is asked before each four.
     while 4 <= end - k {
         if id <= machine_ids[k + 3] {
             return k;
@@ -115,19 +115,15 @@ pub fn ones(
     ensures { (RunTo i m end id result machine_ids.now machine_values.now ids.old ids.new values.old
         values.new columns.old columns.new) × (result < end → id ≤ get_or machine_ids.now result 0) }
 {
-    let mut k = m;
-    let mut p = i;
-    while k < end {
+    for k in m..end {
         let y = machine_ids[k];
         if id <= y {
             return k;
         }
         let v = machine_values[k];
-        put(ids, values, columns, p, y, v, MACHINE);
-        k += 1;
-        p += 1;
+        put(ids, values, columns, i + (k - m), y, v, MACHINE);
     }
-    k
+    end
 }
 
 // The id after the last of the run from place m to place k.

@@ -4,7 +4,8 @@ ghost use Rattle.std.specs.Prelude.{◌≡◌, true, ℕ};
 ghost use Rattle.format.specs.Refusals.{Outcome};
 ghost use Rattle.format.specs.Editions.{plain};
 ghost use Rattle.format.specs.Opening.{head_ok, length_ok, value_of};
-ghost use Rattle.format.specs.LookUp.{Look, halved, steps, step_probes};
+ghost use Rattle.format.specs.LookUp as Lu;
+ghost use Rattle.format.specs.LookUp.{halved, steps, step_probes};
 ghost use Rattle.answers.specs.Replies.{answer_of, Probed};
 ghost use Rattle.answers.specs.Words.{numbers_in, laid_out, answer_words};
 ghost use Rattle.values.specs.Edition.{edition_of, fetched_of};
@@ -12,10 +13,10 @@ ghost use Rattle.column.specs.Opened.{column_of};
 ghost use Rattle.lookup.specs.Words.{Listing, ByStep};
 
 use super::{Located, ask_of, locate};
-use answers::{ABSENT, Answer, FOUND, Refusal};
+use answers::{ABSENT, FOUND, Look, Refusal};
 use column::{Column, Head};
-use scaled_values::Slotted;
-use values::{Edition, Fetched, Fields};
+use scaled_values::Slot;
+use values::{Edition, Fields};
 
 // ---- a column as words: the numbers 3 to 11 of C's struct
 
@@ -70,53 +71,55 @@ pub fn words_of(column: Column) -> [u64; 12]
 
 // ---- an answer as words: C's struct
 
-pub fn put_answer(out: &mut [u64; 6], answer: Answer)
+pub fn put_answer(out: &mut [u64; 6], answer: Result<Look, Refusal>)
     ensures { (n : ℕ) → Probed n answer → out.new ≡ answer_words n (answer_of answer) }
 {
     match answer {
-        Answer::Found {
-            ordinal,
-            value,
-            words,
-            probes,
-        } => {
+        Ok(
+            Look::Found {
+                ordinal,
+                value,
+                words,
+                probes,
+            },
+        ) => {
             *out = [FOUND, 0, ordinal, signed::bits_of(value), words, probes];
         }
-        Answer::Absent { words, probes } => {
+        Ok(Look::Absent { words, probes }) => {
             *out = [ABSENT, 0, 0, 0, words, probes];
         }
-        Answer::Refused(why) => {
+        Err(why) => {
             *out = [why.number(), why.number_with(), 0, 0, 0, 0];
         }
     }
 }
 
 // The answer of the steps, which refuse with BROKEN alone.
-pub fn answer_of(told: &[u64; 6]) -> Answer
-    ensures { (n : ℕ) (o : Outcome Look) → ByStep o → told.now ≡ answer_words n o → (answer_of result ≡ o) × (Probed n result) }
+pub fn answer_of(told: &[u64; 6]) -> Result<Look, Refusal>
+    ensures { (n : ℕ) (o : Outcome Lu.Look) → ByStep o → told.now ≡ answer_words n o → (answer_of result ≡ o) × (Probed n result) }
 {
-    if told[0] == 0 {
-        return Answer::Found {
+    if told[0] == FOUND {
+        return Ok(Look::Found {
             ordinal: told[2],
             value: signed::unbiased(signed::turned(told[3])),
             words: told[4],
             probes: told[5],
-        };
+        });
     }
-    if told[0] == 1 {
-        return Answer::Absent {
+    if told[0] == ABSENT {
+        return Ok(Look::Absent {
             words: told[4],
             probes: told[5],
-        };
+        });
     }
-    Answer::Refused(Refusal::Broken)
+    Err(Refusal::Broken)
 }
 
 // ---- step 7
 
 // The value of ordinal i, where the value section starts at `end`. The column's numbers are read here and not before the other steps, and
 // the section is cut here and not by the caller: each then takes a register only while it is needed.
-fn value_at(bytes: &[u8], end: usize, edition: Edition, words: &[u64; 12], i: u64) -> Fetched
+fn value_at(bytes: &[u8], end: usize, edition: Edition, words: &[u64; 12], i: u64) -> Option<i64>
     requires { Listing bytes.now (laid_out (edition_of edition) words.now) end i }
     ensures { fetched_of result ≡ value_of bytes.now (laid_out (edition_of edition) words.now) i }
 {
@@ -124,13 +127,13 @@ fn value_at(bytes: &[u8], end: usize, edition: Edition, words: &[u64; 12], i: u6
     let head = column.head;
     let fields = head.fields;
     let section = &bytes[end..];
-    let slot: Slotted = values::slot_of(section, edition, head.count, fields, i);
+    let slot: Option<Slot> = values::slot_of(section, edition, head.count, fields, i);
     let stored = values::number_in(section, edition, slot);
     values::value_of(section, edition, fields, slot, stored)
 }
 
 // The same in edition 1. (A function of its own: two calls that differ in the edition alone would be joined again.)
-fn plain_value_at(bytes: &[u8], end: usize, words: &[u64; 12], i: u64) -> Fetched
+fn plain_value_at(bytes: &[u8], end: usize, words: &[u64; 12], i: u64) -> Option<i64>
     requires { Listing bytes.now (laid_out plain words.now) end i }
     ensures { fetched_of result ≡ value_of bytes.now (laid_out plain words.now) i }
 {
@@ -138,7 +141,7 @@ fn plain_value_at(bytes: &[u8], end: usize, words: &[u64; 12], i: u64) -> Fetche
 }
 
 // Edition 1 is told apart once, and not in each part of step 7.
-fn value_in(bytes: &[u8], end: usize, edition: Edition, words: &[u64; 12], i: u64) -> Fetched
+fn value_in(bytes: &[u8], end: usize, edition: Edition, words: &[u64; 12], i: u64) -> Option<i64>
     requires { Listing bytes.now (laid_out (edition_of edition) words.now) end i }
     ensures { fetched_of result ≡ value_of bytes.now (laid_out (edition_of edition) words.now) i }
 {
@@ -151,7 +154,7 @@ fn value_in(bytes: &[u8], end: usize, edition: Edition, words: &[u64; 12], i: u6
 // ---- steps 1 to 7
 
 // On a column that keeps the header rules and fits these bytes, laid out as words.
-fn steps_of(bytes: &[u8], edition: Edition, words: &[u64; 12], id: u32) -> Answer
+fn steps_of(bytes: &[u8], edition: Edition, words: &[u64; 12], id: u32) -> Result<Look, Refusal>
     requires { (head_ok (laid_out (edition_of edition) words.now).head ≡ true)
         × (length_ok bytes.now (laid_out (edition_of edition) words.now) ≡ true) }
     ensures { (answer_of result ≡ steps halved bytes.now (laid_out (edition_of edition) words.now) id)
@@ -169,20 +172,20 @@ fn steps_of(bytes: &[u8], edition: Edition, words: &[u64; 12], id: u32) -> Answe
     } = place
     else {
         let Located::Absent { words, probes } = place else {
-            return Answer::Refused(Refusal::Broken);
+            return Err(Refusal::Broken);
         };
-        return Answer::Absent { words, probes };
+        return Ok(Look::Absent { words, probes });
     };
     let ordinal = numbers::wide32(ordinal);
-    let Fetched::Value(value) = value_in(bytes, end, edition, words, ordinal) else {
-        return Answer::Refused(Refusal::Broken);
+    let Some(value) = value_in(bytes, end, edition, words, ordinal) else {
+        return Err(Refusal::Broken);
     };
-    Answer::Found {
+    Ok(Look::Found {
         ordinal,
         value,
         words: counted,
         probes,
-    }
+    })
 }
 
 // The same, written where the caller wants it.

@@ -55,10 +55,9 @@ pub fn push(dst: &mut [u8], p: Pending, w: usize, x: u64) -> Pending
     requires { (w ≤ 64) × (x < 2 ^ w) × (p.have < 64) × (p.acc < 2 ^ p.have) × (p.at * 8 + p.have + w ≤ 8 * length dst.old) }
     ensures { Pushed gather_low w x p result dst.old dst.new }
 {
-    let at = p.at;
-    let have = p.have;
+    let Pending { at, have, acc } = p;
     let end = have + w;
-    let word = topped(p.acc, have, x);
+    let word = topped(acc, have, x);
     if end < 64 {
         return Pending {
             at,
@@ -79,7 +78,6 @@ pub fn finish(dst: &mut [u8], p: Pending)
     requires { (p.have < 64) × (p.acc < 2 ^ p.have) × (p.at * 8 + p.have ≤ 8 * length dst.old) }
     ensures { Finished gather_low p dst.old dst.new }
 {
-    let at = p.at;
-    let have = p.have;
-    packing::store(dst, at, (have + 7) >> 3, packing::swapped(p.acc));
+    let Pending { at, have, acc } = p;
+    packing::store(dst, at, (have + 7) >> 3, packing::swapped(acc));
 }

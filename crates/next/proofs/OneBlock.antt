@@ -1,5 +1,6 @@
 -- The ids of one block, told by the places of the block. Assumes nothing.
-use Rattle.format.specs.Kit.{◌≡◌, refl, sym, ◌∙◌, inl, inr, false, ◌&&◌, List, [], ◌∷◌, ℕ, zero, suc, ◌+◌, ◌-◌, ◌*◌, ◌≤◌, ◌<◌, arith, Option, none, some, ℤ}
+use Rattle.std.specs.Prelude.{Ok, Some}
+use Rattle.format.specs.Kit.{◌≡◌, refl, sym, ◌∙◌, false, ◌&&◌, List, ℕ, zero, suc, ◌+◌, ◌-◌, ◌*◌, ◌≤◌, ◌<◌, arith, Option, none, some, ℤ}
 use Rattle.format.specs.Kit.{leb}
 use Rattle.format.specs.Refusals.{Outcome, done, refused, and_then, given, BROKEN}
 use Rattle.format.specs.Ids.{data_bytes}
@@ -16,7 +17,6 @@ use Rattle.next_in_block.specs.First as Fs
 use Rattle.next_in_block.specs.First.{meets, meets_none, fails, meets_by, first_in, first_of}
 use Rattle.next_in_block.specs.declared.First as Fi
 use Rattle.next.specs.Blocks.{AskedOf, reached}
-use Rattle.next.specs.declared.Met as Me
 
 -- the same asked of place y of block b
 abbrev pub ask_for : Ask → ℕ → ℕ → Ask
@@ -102,7 +102,7 @@ module _ (bytes : List ℕ) (c : Opened) (s : List ℕ) (q : Ask) (b : ℕ) (e :
 -- ---- the code's first place
 
 pub place_there : (bytes : List ℕ) (c : Opened) (b o x i : ℕ) (id y : ℕ) → id ≡ b * 65536 + x → y ≡ o + i → (more : Outcome Candidate)
-    → reached bytes c (Me.Met.At id y) more ≡ placed bytes c b o (first_of (Fi.First.At x i)) more
+    → reached bytes c (Ok (Some (record { id = id; ordinal = y }))) more ≡ placed bytes c b o (first_of (Fi.First.At x i)) more
 place_there bytes c b o x i id y e f more = rw (e, f)
 
 pub place_broken : (bytes : List ℕ) (c : Opened) (b o : ℕ) (p : Fi.First) → ((x i : ℕ) → p ≡ Fi.First.At x i → ⊥)

@@ -53,9 +53,6 @@ module _ (s : List ℕ) (q : Ask) (b : ℕ) (e : Entry) (shared : q.jumps ≤ b 
   pub passed_below : e.start + 4 ≤ q.entries → low_at 2 s e.start < b → q.jumps ≡ 0 → b ≤ 32766 → PassedTo s q b 32766
   passed_below h l z m = others 32766 m (omega arith) (λ d u v next. block_below s q.entries q.jumps d e.start h (omega arith) z next)
 
-pub not_passed : (s : List ℕ) (q : Ask) (b : ℕ) → b ≤ 32766 → PassedTo s q b b
-not_passed s q b h = record { from = omega arith; most = h; none = λ bytes c k p y u v. absurd (omega arith) }
-
 -- the ids that are left from there
 pub left_passed : (s : List ℕ) (q : Ask) (b x : ℕ) → Left s q b 0 → PassedTo s q b x → Left s q x 0
 left_passed s q b x left p bytes c k h =

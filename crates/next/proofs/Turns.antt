@@ -1,13 +1,15 @@
 -- The turns of a loop over the blocks. Assumes nothing.
-use Rattle.format.specs.Kit.{◌≡◌, refl, sym, ◌∙◌, inl, inr, List, [], ◌∷◌, ℕ, ◌+◌, ◌-◌, ◌*◌, ◌≤◌, ◌<◌, arith}
+use Rattle.std.specs.Prelude.{Ok, Err, Some, None}
+use Rattle.format.specs.Kit.{◌≡◌, refl, sym, ◌∙◌, List, ℕ, ◌+◌, ◌-◌, ◌*◌, ◌≤◌, ◌<◌, arith}
 use Rattle.format.specs.Limits.{max_id}
 use Rattle.format.specs.Refusals.{done}
 use Rattle.format.specs.Opening.{Opened, id_part}
 use Rattle.format.specs.Next.{no_candidate, in_turn, next_steps}
 use Rattle.laws.proofs.InTurn.{apart}
+use Rattle.answers.specs.declared.Refusal.{Refusal}
 use Rattle.lookup.specs.declared.Ask.{Ask}
 use Rattle.next.specs.Blocks.{AskedOf, BlockAs, WalkedAs}
-use Rattle.next.specs.declared.Met as Me
+use Rattle.next.specs.declared.Met.{Met}
 
 -- the ids from place r of block b on are left
 abbrev pub Left : List ℕ → Ask → ℕ → ℕ → Type 0
@@ -31,16 +33,17 @@ module _ (s : List ℕ) (q : Ask) where
         let a = apart bytes c (65536 - r) (max_id + 1 - ((b + 1) * 65536 + 0)) (b * 65536 + r) (done no_candidate) in
         left bytes c x h ∙ rw e (rw f at a)
 
-    pub left_on : BlockAs s q b r Me.Met.Nothing → Left s q (b + 1) 0
+    pub left_on : BlockAs s q b r (Ok None) → Left s q (b + 1) 0
     left_on n bytes c x h = block_apart bytes c x h ∙ sym (n.left bytes c x h _)
 
     -- an id and a failed step do not ask what is above
-    pub left_met : (y : Me.Met) → BlockAs s q b r y → (y ≡ Me.Met.Nothing → ⊥) → WalkedAs s q y
-    left_met (Me.Met.At id o) n t = record { left = λ bytes c x h. n.left bytes c x h _ ∙ sym (block_apart bytes c x h); listed = n.listed }
-    left_met Me.Met.Nothing n z = absurd (z refl)
-    left_met Me.Met.Broken n t = record { left = λ bytes c x h. n.left bytes c x h _ ∙ sym (block_apart bytes c x h); listed = n.listed }
+    pub left_met : (m : Met) → BlockAs s q b r (Ok (Some m)) → WalkedAs s q (Ok (Some m))
+    left_met m n = record { left = λ bytes c x h. n.left bytes c x h _ ∙ sym (block_apart bytes c x h); listed = n.listed }
 
-  pub left_none : (b r : ℕ) → Left s q b r → 32766 ≤ b → WalkedAs s q Me.Met.Nothing
+    pub left_refused : (why : Refusal) → BlockAs s q b r (Err why) → WalkedAs s q (Err why)
+    left_refused why n = record { left = λ bytes c x h. n.left bytes c x h _ ∙ sym (block_apart bytes c x h); listed = n.listed }
+
+  pub left_none : (b r : ℕ) → Left s q b r → 32766 ≤ b → WalkedAs s q (Ok None)
   unfolding in_turn
   left_none b r left k =
       record {

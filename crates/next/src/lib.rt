@@ -4,30 +4,29 @@
 ghost use Rattle.std.specs.Prelude.{◌≡◌, true, ℕ, ◌+◌, ◌*◌, ◌≤◌, ◌<◌, length, ltb};
 ghost use Rattle.format.specs.Limits.{max_id, max_block, block_places};
 ghost use Rattle.format.specs.Editions.{editions};
-ghost use Rattle.format.specs.Opening.{head_ok, length_ok};
+ghost use Rattle.format.specs.Opening.{head_ok, length_ok, value_of};
 ghost use Rattle.format.specs.Next.{next_steps, next, next_in};
-ghost use Rattle.answers.specs.Replies.{refused_as};
+ghost use Rattle.answers.specs.Replies.{refused_as, candidate_of};
+ghost use Rattle.values.specs.Edition.{fetched_of};
 ghost use Rattle.column.specs.Opened.{column_of};
 ghost use Rattle.lookup.specs.Steps.{Fair};
-ghost use Rattle.next.specs.Blocks.{BlockAs, PassedTo, WalkedAs, sum_of, Told};
+ghost use Rattle.next.specs.Blocks.{BlockAs, PassedTo, WalkedAs, Told};
 
-use answers::{ABSENT, Candidate, Cursor, FOUND, Next, Refusal};
+use answers::{Cursor, Next, Pair, Refusal};
 use blocks::Block;
-use column::{Column, Opening};
-use lookup::{Ask, Room, Step};
+use column::Column;
+use lookup::{Ask, Step};
 use next_in_block::First;
-use scaled_values::Slotted;
-use values::Fetched;
+use scaled_values::Slot;
 
 // The blocks that ids have, as a number to count them by.
-const BLOCKS: usize = limits::MAX_BLOCKS as usize;
+pub const BLOCKS: usize = limits::MAX_BLOCKS as usize;
 
-// An id of the id section with its ordinal, none, or a failed step.
-#[derive(Clone, Copy)]
-enum Met {
-    At { id: u32, ordinal: u64 },
-    Nothing,
-    Broken,
+// An id of the id section with its ordinal.
+#[derive(Clone, Copy, Debug, PartialEq, Eq)]
+struct Met {
+    id: u32,
+    ordinal: u64,
 }
 
 pub fn id_of(b: usize, place: usize) -> u32
@@ -37,8 +36,8 @@ pub fn id_of(b: usize, place: usize) -> u32
     (b * Block::PLACES + place) as u32
 }
 
-// The ids of block b from place r on.
-fn in_block(s: &[u8], q: Ask, b: usize, r: usize) -> Met
+// The first id of block b from place r on; a failed step is a refusal.
+fn in_block(s: &[u8], q: Ask, b: usize, r: usize) -> Result<Option<Met>, Refusal>
     requires { (Fair (length s.now) q) × (b ≤ max_block) × (r < block_places) }
     ensures { BlockAs s.now q b r result }
 {
@@ -48,24 +47,24 @@ fn in_block(s: &[u8], q: Ask, b: usize, r: usize) -> Met
     let met = lookup::step_at(s, a, j, b, lookup::entry_at(s, a, j, b));
     let Step::At(block) = met else {
         return match met {
-            Step::Absent => Met::Nothing,
-            _ => Met::Broken,
+            Step::Absent => Ok(None),
+            _ => Err(Refusal::Broken),
         };
     };
-    let Room::Enough(block) = lookup::room_for(block, a, p, q.count) else {
-        return Met::Broken;
+    let Some(block) = lookup::room_for(block, a, p, q.count) else {
+        return Err(Refusal::Broken);
     };
     let first = next_in_block::first_in(s, block, p, r);
     let First::At { place, inner } = first else {
         return match first {
-            First::Nothing => Met::Nothing,
-            _ => Met::Broken,
+            First::Nothing => Ok(None),
+            _ => Err(Refusal::Broken),
         };
     };
-    Met::At {
+    Ok(Some(Met {
         id: id_of(b, place),
         ordinal: block.ordinal + inner,
-    }
+    }))
 }
 
 // From block b on, the first that is not passed over at once: from the last jump entry on all blocks go by one entry, and without
@@ -86,7 +85,7 @@ pub fn next_block(s: &[u8], q: Ask, b: usize) -> usize
     }
     let k = numbers::size(numbers::short_at(s, at));
     if b < k {
-        return lookup::smaller(k, BLOCKS);
+        return k.min(BLOCKS);
     }
     if b == k {
         return b;
@@ -97,79 +96,59 @@ pub fn next_block(s: &[u8], q: Ask, b: usize) -> usize
     b
 }
 
-// All ids from the asked one on, block by block.
-fn walk(s: &[u8], q: Ask) -> Met
+// The first id from the asked one on, block by block.
+fn walk(s: &[u8], q: Ask) -> Result<Option<Met>, Refusal>
     requires { (Fair (length s.now) q) × (q.block ≤ max_block) }
     ensures { WalkedAs s.now q result }
 {
     let mut b = q.block;
     let mut r = q.place;
     while b < BLOCKS {
-        let met = in_block(s, q, b, r);
-        let Met::Nothing = met else {
-            return met;
-        };
+        if let Some(met) = in_block(s, q, b, r)? {
+            return Ok(Some(met));
+        }
         b = next_block(s, q, b + 1);
         r = 0;
     }
-    Met::Nothing
+    Ok(None)
 }
 
 // ---- the answer
 
-// A failed step, beside FOUND and ABSENT.
-const FAILED: u64 = 2;
-
-// What the steps come to, in whole words: found, with id, ordinal and value; absent; a failed step. (Ordinal and value stand apart, since the
-// callers would read them as one number of 16 bytes just after they were written as two, which stalls.)
-#[derive(Clone, Copy)]
-pub struct Sum {
-    pub ordinal: u64,
-    pub kind: u64,
-    pub value: i64,
-    pub id: u32,
-}
-
-fn no_more(kind: u64) -> Sum
-    ensures { result.kind ≡ kind }
+// The value of one ordinal (step 7).
+pub fn value_at(bytes: &[u8], column: Column, ordinal: u64) -> Option<i64>
+    requires { (head_ok (column_of column).head ≡ true) × (length_ok bytes.now (column_of column) ≡ true) × (ordinal < column.head.count) }
+    ensures { fetched_of result ≡ value_of bytes.now (column_of column) ordinal }
 {
-    Sum {
-        kind,
-        id: 0,
-        ordinal: 0,
-        value: 0,
-    }
+    let head = column.head;
+    let end = numbers::size(column.start) + numbers::size(head.id_bytes);
+    let section = &bytes[end..];
+    let edition = head.edition;
+    let fields = head.fields;
+    let slot: Option<Slot> = values::slot_of(section, edition, head.count, fields, ordinal);
+    let stored = values::number_in(section, edition, slot);
+    values::value_of(section, edition, fields, slot, stored)
 }
 
 // On a column that keeps the header rules and fits these bytes.
-pub fn steps_from(bytes: &[u8], column: Column, target: u32) -> Sum
+pub fn steps_from(bytes: &[u8], column: Column, target: u32) -> Result<Option<Pair>, Refusal>
     requires { (head_ok (column_of column).head ≡ true) × (length_ok bytes.now (column_of column) ≡ true) × (target ≤ max_id) }
-    ensures { sum_of result ≡ next_steps bytes.now (column_of column) target }
+    ensures { candidate_of result ≡ next_steps bytes.now (column_of column) target }
 {
     let head = column.head;
     let start = numbers::size(column.start);
     let end = start + numbers::size(head.id_bytes);
-    let met = walk(&bytes[start..end], lookup::ask_of(column, target));
-    let Met::At { id, ordinal } = met else {
-        return match met {
-            Met::Nothing => no_more(ABSENT),
-            _ => no_more(FAILED),
-        };
+    let Some(met) = walk(&bytes[start..end], lookup::ask_of(column, target))? else {
+        return Ok(None);
     };
-    let section = &bytes[end..];
-    let edition = head.edition;
-    let fields = head.fields;
-    let slot: Slotted = values::slot_of(section, edition, head.count, fields, ordinal);
-    let stored = values::number_in(section, edition, slot);
-    let Fetched::Value(value) = values::value_of(section, edition, fields, slot, stored) else {
-        return no_more(FAILED);
+    let Some(value) = value_at(bytes, column, met.ordinal) else {
+        return Err(Refusal::Broken);
     };
-    Sum {
-        kind: FOUND,
-        id,
-        ordinal,
+    Ok(Some(Pair {
+        id: met.id,
+        ordinal: met.ordinal,
         value,
-    }
+    }))
 }
 
 // ---- the calls
@@ -180,43 +159,30 @@ fn refused(cursor: Cursor, why: Refusal) -> Next
 {
     Next {
         cursor,
-        candidate: Candidate::Refused(why),
+        candidate: Err(why),
     }
 }
 
 // An answer moves it to the target.
-fn moved(last: u64, candidate: Candidate) -> Next
-    ensures { (result.candidate ≡ candidate) × (result.cursor.last ≡ last) }
+fn answered(cursor: Cursor, target: u32, candidate: Result<Option<Pair>, Refusal>) -> Next
+    ensures { Told (candidate_of candidate) cursor.last target result }
 {
-    Next {
-        cursor: Cursor { last },
-        candidate,
+    match candidate {
+        Ok(pair) => Next {
+            cursor: Cursor {
+                last: u64::from(target),
+            },
+            candidate: Ok(pair),
+        },
+        Err(why) => refused(cursor, why),
     }
-}
-
-fn answered(cursor: Cursor, target: u32, sum: Sum) -> Next
-    ensures { Told (sum_of sum) cursor.last target result }
-{
-    let last = numbers::wide32(target);
-    if sum.kind == FOUND {
-        let found = Candidate::Found {
-            id: sum.id,
-            ordinal: sum.ordinal,
-            value: sum.value,
-        };
-        return moved(last, found);
-    }
-    if sum.kind == ABSENT {
-        return moved(last, Candidate::Nothing);
-    }
-    refused(cursor, Refusal::Broken)
 }
 
 // Whether the target lies below the last one answered.
 fn goes_back(cursor: Cursor, target: u32) -> bool
     ensures { result ≡ ltb target cursor.last }
 {
-    (target as u64) < cursor.last
+    u64::from(target) < cursor.last
 }
 
 // In a column that was opened before: 14, 16, then 10 or 11 where the column's numbers break a header rule or do not fit these bytes,
@@ -249,9 +215,8 @@ pub fn next(cursor: Cursor, bytes: &[u8], target: u32) -> Next
     if goes_back(cursor, target) {
         return refused(cursor, Refusal::Back);
     }
-    let opened = Column::open(bytes);
-    match opened {
-        Opening::Refused(why) => refused(cursor, why),
-        Opening::Open(column) => answered(cursor, target, steps_from(bytes, column, target)),
+    match Column::open(bytes) {
+        Err(why) => refused(cursor, why),
+        Ok(column) => answered(cursor, target, steps_from(bytes, column, target)),
     }
 }

@@ -28,14 +28,6 @@ module _ (s : List ℕ) (m k : ℕ) where
       (rw e at z) ∙ f.clear (y - 64 * k) (omega arith) (omega arith)
 
   module _ (r b j : ℕ) (c : Clear s m r (64 * k + b)) (f : FirstBit (low_at 8 s (m + 8 * k)) b j) (h : b < 64) where
-    -- a long without a set bit from b on
-    pub long_passed : 64 ≤ j → Clear s m r (64 * (k + 1) + 0)
-    long_passed l =
-        record {
-          from = omega (arith, c.from);
-          clear = λ y a n. below_or y (64 * k + b) (λ z. c.clear y a z) (λ z. clear_in b j f y z (omega arith) (omega arith));
-        }
-
     -- the first set bit
     pub long_hit : k < 1024 → j < 64 → FirstOne s m r (64 * k + j)
     long_hit l n =
@@ -45,18 +37,6 @@ module _ (s : List ℕ) (m k : ℕ) where
           clear = λ y a z. below_or y (64 * k + b) (λ x. c.clear y a x) (λ x. clear_in b j f y x z (omega arith));
           is_set = λ x. bit_of_long j n ∙ f.is_set n;
         }
-
-pub begins : (s : List ℕ) (m r : ℕ) → Clear s m r (64 * (r / 64) + r % 64)
-begins s m r = record { from = omega arith; clear = λ y a z. absurd (omega arith) }
-
-pub ends : (s : List ℕ) (m r k b : ℕ) → r < 65536 → Clear s m r (64 * k + b) → 1024 ≤ k → FirstOne s m r 65536
-ends s m r k b h c l =
-    record {
-      from = omega arith;
-      most = omega arith;
-      clear = λ y a z. c.clear y a (omega arith);
-      is_set = λ z. absurd (omega arith);
-    }
 
 -- ---- the first place of a dense block
 

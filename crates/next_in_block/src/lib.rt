@@ -2,7 +2,7 @@
 // block from the place's own on, a full block at once.
 #![tactic(auto)]
 
-ghost use Rattle.std.specs.Prelude.{◌≡◌, false, ◌||◌, ℕ, ◌+◌, ◌-◌, ◌*◌, ◌/◌, ◌^◌, ◌≤◌, ◌<◌, length, leb};
+ghost use Rattle.std.specs.Prelude.{◌≡◌, false, ℕ, ◌+◌, ◌-◌, ◌*◌, ◌/◌, ◌^◌, ◌≤◌, ◌<◌, length, MatchOption};
 ghost use Rattle.std.specs.Int.Count.{count_trailing_zeros};
 ghost use Rattle.format.specs.Bytes.{low_at};
 ghost use Rattle.format.specs.Limits.{Power, block_places, bitmap_bytes};
@@ -28,26 +28,17 @@ fn entry_at(s: &[u8], i: usize) -> u16
     requires { i + 2 ≤ length s.now }
     ensures { result ≡ low_at 2 s.now i }
 {
-    (s[i] as u16) + (s[i + 1] as u16) * 256
+    u16::from(s[i]) + u16::from(s[i + 1]) * 256
 }
 
-// Whether one was found before, or x is r or above. Both are asked at once: no branch.
-fn or_from(some: bool, r: u16, x: u16) -> bool
-    ensures { result ≡ (some || leb r x) }
-{
-    some | (r <= x)
-}
-
-// Whether one of sixteen entries at `at` is r or above.
+// Whether one of sixteen entries at `at` is r or above. All are asked, by `|` and not by `any`: no branch.
 fn some_from(s: &[u8], at: usize, r: u16) -> bool
     requires { at + 32 ≤ length s.now }
     ensures { result ≡ false → (k : ℕ) → k < 16 → entry_in s.now at k < r }
 {
     let mut some = false;
-    let mut k = 0;
-    while k < 16 {
-        some = or_from(some, r, entry_at(s, at + 2 * k));
-        k += 1;
+    for k in 0..16 {
+        some |= r <= entry_at(s, at + 2 * k);
     }
     some
 }
@@ -57,14 +48,13 @@ fn skipped(s: &[u8], at: usize, count: usize, r: u16) -> usize
     requires { at + 2 * count ≤ length s.now }
     ensures { Below s.now at count r result }
 {
-    let mut i = 0;
-    while 16 <= count - i {
-        if some_from(s, at + 2 * i, r) {
-            return i;
+    let sixteens = count / 16;
+    for k in 0..sixteens {
+        if some_from(s, at + 32 * k, r) {
+            return 16 * k;
         }
-        i += 16;
     }
-    i
+    16 * sixteens
 }
 
 // The first of the entries at `at` that is r or above; `count`, if there is none.
@@ -72,14 +62,13 @@ pub fn first_entry(s: &[u8], at: usize, count: usize, r: u16) -> usize
     requires { at + 2 * count ≤ length s.now }
     ensures { FirstEntry s.now at count r result }
 {
-    let mut i = skipped(s, at, count, r);
-    while i < count {
+    let start = skipped(s, at, count, r);
+    for i in start..count {
         if r <= entry_at(s, at + 2 * i) {
             return i;
         }
-        i += 1;
     }
-    i
+    count
 }
 
 // That entry stands for the first place.
@@ -113,30 +102,28 @@ pub fn bits_above(x: u64, z: usize) -> u64
     (x >> z) >> 1
 }
 
-// The first set bit of the long from b on; 64 or above, if there is none.
-fn first_bit(long: u64, b: usize) -> usize
+// The first set bit of the long from b on.
+fn first_bit(long: u64, b: usize) -> Option<usize>
     requires { b < 64 }
-    ensures { FirstBit long b result }
+    ensures { MatchOption result (FirstBit long b 64) (λ j. (j < 64) × (FirstBit long b j)) }
 {
-    b + zeros_below(long >> b)
+    let j = b + zeros_below(long >> b);
+    if j < 64 { Some(j) } else { None }
 }
 
-// The first place from r on whose bit is set, of the longs at m; all places, if there is none.
-fn first_one(s: &[u8], m: usize, r: usize) -> usize
+// The first place from r on whose bit is set, of the longs at m.
+fn first_one(s: &[u8], m: usize, r: usize) -> Option<usize>
     requires { (m + bitmap_bytes ≤ length s.now) × (r < block_places) }
-    ensures { FirstOne s.now m r result }
+    ensures { MatchOption result (FirstOne s.now m r block_places) (λ x. (x < block_places) × (FirstOne s.now m r x)) }
 {
-    let mut k = r / 64;
     let mut b = r % 64;
-    while k < Block::LONGS {
-        let j = first_bit(numbers::long_at(s, m + 8 * k), b);
-        if j < 64 {
-            return 64 * k + j;
+    for k in r / 64..Block::LONGS {
+        if let Some(j) = first_bit(numbers::long_at(s, m + 8 * k), b) {
+            return Some(64 * k + j);
         }
-        k += 1;
         b = 0;
     }
-    Block::PLACES
+    None
 }
 
 // The index of place r, by its stride's rank and the ones before it.
@@ -156,10 +143,9 @@ fn dense(s: &[u8], t: usize, p: usize, count: usize, r: usize) -> First
     requires { (Power p) × (r < block_places) × (t + rank_bytes p + bitmap_bytes ≤ length s.now) }
     ensures { (first_of result ≡ first_in (block_places - r) (dense_at p s.now t count) r) × (Within count result) }
 {
-    let place = first_one(s, t + blocks::rank_bytes(p), r);
-    if place == Block::PLACES {
+    let Some(place) = first_one(s, t + blocks::rank_bytes(p), r) else {
         return First::Nothing;
-    }
+    };
     let inner = index_of(s, t, p, place);
     if inner < numbers::long(count) {
         First::At { place, inner }

@@ -9,17 +9,11 @@ ghost use Rattle.packing.specs.Ends.{EndsOf};
 ghost use Rattle.packing.specs.Stream.{Stored, Pushed, Finished};
 
 // Numbers that are written one after the other: at bytes are full, and have bits wait, as the number acc.
-#[derive(Clone, Copy)]
+#[derive(Clone, Copy, Debug, PartialEq, Eq)]
 pub struct Pending {
     pub at: usize,
     pub have: usize,
     pub acc: u64,
-}
-
-fn wide(b: u8) -> u64
-    ensures { (result ≡ b) × (result < 256) }
-{
-    b as u64
 }
 
 // The n bits of x above its k low ones.
@@ -66,14 +60,7 @@ pub fn skip_of(i: usize, w: usize) -> usize
 pub fn swapped(x: u64) -> u64
     ensures { result ≡ turned 8 x }
 {
-    x % 256 * 72057594037927936
-        + x / 256 % 256 * 281474976710656
-        + x / 65536 % 256 * 1099511627776
-        + x / 16777216 % 256 * 4294967296
-        + x / 4294967296 % 256 * 16777216
-        + x / 1099511627776 % 256 * 65536
-        + x / 281474976710656 % 256 * 256
-        + x / 72057594037927936
+    x.swap_bytes()
 }
 
 // Eight bytes of s from byte b on, as one number: one load and one swap, where it is called too.
@@ -101,7 +88,7 @@ pub fn window(s: &[u8], at: usize, skip: usize) -> u64
 }
 
 // The ends of a byte string: its first k bytes and its last k, each as a number low byte first.
-#[derive(Clone, Copy)]
+#[derive(Clone, Copy, Debug, PartialEq, Eq)]
 pub struct Ends {
     pub front: u64,
     pub back: u64,
@@ -116,8 +103,8 @@ pub fn ends_of(s: &[u8], w: usize) -> Ends
     let n = s.len();
     if w <= 8 {
         return Ends {
-            front: wide(s[0]),
-            back: wide(s[n - 1]),
+            front: u64::from(s[0]),
+            back: u64::from(s[n - 1]),
             k: 1,
         };
     }
@@ -161,14 +148,6 @@ pub fn number_of(e: Ends, n: usize, skip: usize, w: usize) -> u64
     met(x, y, w)
 }
 
-// The byte of v above its k low bits.
-fn byte_above(v: u64, k: usize) -> u8
-    requires { k < 64 }
-    ensures { result ≡ v / 2 ^ k % 2 ^ 8 }
-{
-    field(v, k, 8) as u8
-}
-
 // The have bits of acc, then the bits of next up to 64.
 fn filled(acc: u64, have: usize, next: u64) -> u64
     requires { (have < 64) × (acc < 2 ^ have) × (next < 2 ^ (64 - have)) }
@@ -182,11 +161,7 @@ pub fn store(dst: &mut [u8], at: usize, n: usize, v: u64)
     requires { (n ≤ 8) × (at + n ≤ length dst.old) }
     ensures { Stored at n v dst.old dst.new }
 {
-    let mut j = 0;
-    while j < n {
-        dst[at + j] = byte_above(v, 56 - j * 8);
-        j += 1;
-    }
+    dst[at..at + n].copy_from_slice(&v.to_be_bytes()[..n]);
 }
 
 // The number x of w bits after those written before. Eight bytes are written at once, when there are as many.
@@ -194,9 +169,7 @@ pub fn push(dst: &mut [u8], p: Pending, w: usize, x: u64) -> Pending
     requires { (w ≤ 64) × (x < 2 ^ w) × (p.have < 64) × (p.acc < 2 ^ p.have) × (p.at * 8 + p.have + w ≤ 8 * length dst.old) }
     ensures { Pushed gather w x p result dst.old dst.new }
 {
-    let at = p.at;
-    let have = p.have;
-    let acc = p.acc;
+    let Pending { at, have, acc } = p;
     let end = have + w;
     if end < 64 {
         return Pending {
@@ -219,7 +192,6 @@ pub fn finish(dst: &mut [u8], p: Pending)
     requires { (p.have < 64) × (p.acc < 2 ^ p.have) × (p.at * 8 + p.have ≤ 8 * length dst.old) }
     ensures { Finished gather p dst.old dst.new }
 {
-    let at = p.at;
-    let have = p.have;
-    store(dst, at, (have + 7) >> 3, filled(p.acc, have, 0));
+    let Pending { at, have, acc } = p;
+    store(dst, at, (have + 7) >> 3, filled(acc, have, 0));
 }

@@ -12,9 +12,10 @@ ghost use Rattle.packings.specs.Packings.{listed_from, listed_before, packing_of
 use packing::Pending;
 
 // Lucene 9's widths, a bit for each; that of 0 is also that of 64.
-const LISTED: u64 = 72340173107564823;
+const LISTED: u64 = 0x0101_0101_1111_1117;
 
-#[derive(Clone, Copy)]
+// No trait: an edition is told by its header, so the order is a value, and a trait would ask each caller for the match that stands here once.
+#[derive(Clone, Copy, Debug, PartialEq, Eq)]
 pub enum Order {
     // Document 01's, edition 1.
     High,
@@ -23,7 +24,7 @@ pub enum Order {
 }
 
 // A number that was fetched, and how many bytes were taken for it.
-#[derive(Clone, Copy)]
+#[derive(Clone, Copy, Debug, PartialEq, Eq)]
 pub struct Taken {
     pub number: u64,
     pub bytes: usize,
@@ -35,7 +36,7 @@ pub struct Taken {
 fn bit_length(q: u64) -> u64
     ensures { (result ≡ bit_length q) × (result ≤ 64) }
 {
-    64 - (u64::leading_zeros(q) as u64)
+    64 - u64::from(q.leading_zeros())
 }
 
 // The least of Lucene 9's widths that is at least b.
@@ -195,11 +196,10 @@ pub fn spare_ok(s: &[u8], order: Order, spare: usize) -> bool
     requires { spare < 8 }
     ensures { result ≡ spare_ok order s.now spare }
 {
-    let n = s.len();
-    if n == 0 {
+    let Some(&last) = s.last() else {
         return true;
-    }
-    let last = s[n - 1] as u64;
+    };
+    let last = u64::from(last);
     match order {
         Order::High => last % numbers::pow2(spare) == 0,
         Order::Low => last / numbers::pow2(8 - spare) == 0,

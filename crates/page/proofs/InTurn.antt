@@ -3,7 +3,7 @@ use Rattle.format.specs.Kit.{◌≡◌, refl, sym, ap, ◌∙◌, subst, List, O
 use Rattle.format.specs.Limits.{block_places}
 use Rattle.format.specs.Bytes.{low_at}
 use Rattle.format.specs.IdsRead.{shorts}
-use Rattle.format.specs.Ids.{Kind, sparse, dense, all, kind_of}
+use Rattle.format.specs.Ids.{Kind, sparse, dense, kind_of}
 use Rattle.format.specs.Opening.{Opened, id_part}
 use Rattle.format.specs.LookUp.{halve, halved, in_sparse}
 use Rattle.laws.proofs.Cases.{below_or, equal_or}
@@ -16,7 +16,7 @@ use Rattle.column.specs.declared.Column.{Column}
 use Rattle.in_block.proofs.ByKind.{of_sparse}
 use Rattle.page.specs.Marks.{mark_of, InBlock}
 use Rattle.page.specs.declared.marks.Mark as Ma
-use Rattle.page.specs.Runs.{Run, Climbs, Ready, Reached, ReadyIn, ReachedIn, Way}
+use Rattle.page.specs.Runs.{Run, Climbs, Reached, ReadyIn, ReachedIn, Way}
 
 -- ---- where they end
 
@@ -38,19 +38,6 @@ run_more ids i e g l t k j a b d =
     below_or j e (λ y. g k j a b y) (λ y. let z : e ≡ j = omega arith in subst (After ids k) z last)
 
 -- ---- entries
-
-pub climb_more : (s : List ℕ) (at i : ℕ) → Climbs s at i → 0 < i → low_at 2 s (at + 2 * (i - 1)) < low_at 2 s (at + 2 * i) → Climbs s at (i + 1)
-climb_more s at i g l t q m a b =
-    let last : q < i → low_at 2 s (at + 2 * q) < low_at 2 s (at + 2 * i) =
-    λ y.
-    equal_or q (i - 1)
-    (λ z. subst (λ (x : ℕ). low_at 2 s (at + 2 * x) < low_at 2 s (at + 2 * i)) (sym z) t)
-    (λ z. let x = g q (i - 1) (omega arith) (omega arith) in omega (arith, x, t)) in
-    below_or m i (λ y. g q m a y) (λ y. let z : i ≡ m = omega arith in subst (λ (x : ℕ). low_at 2 s (at + 2 * q) < low_at 2 s (at + 2 * x)) z (last (omega arith)))
-
-pub ready_more : (s : List ℕ) (at j r : ℕ) → Ready s at j r → low_at 2 s (at + 2 * j) < r → Ready s at (j + 1) r
-ready_more s at j r g t q b =
-    below_or q j (λ y. g q y) (λ y. let z : j ≡ q = omega arith in subst (λ (x : ℕ). low_at 2 s (at + 2 * x) < r) z t)
 
 -- halving ascending entries
 module _ (r : ℕ) (xs : List ℕ) (up : (q m : ℕ) → q < m → m < length xs → get_or xs q 0 < get_or xs m 0) where
@@ -137,12 +124,6 @@ not_both n e f = absurd (n (sym e ∙ f))
 
 pub sparse_dense : sparse ≡ dense → ⊥
 sparse_dense e = let z : ◌≡◌ {A = ℕ} 0 1 = cc in omega arith
-
-pub sparse_all : sparse ≡ all → ⊥
-sparse_all e = let z : ◌≡◌ {A = ℕ} 0 1 = cc in omega arith
-
-pub dense_all : dense ≡ all → ⊥
-dense_all e = let z : ◌≡◌ {A = ℕ} 0 1 = cc in omega arith
 
 pub sparse_fits : {bytes : List ℕ} {c : Opened} {b : ℕ} {k : Block} → InBlock bytes c b k → kind_of k.count ≡ sparse
     → k.start + 2 * k.count ≤ length (id_part bytes c)

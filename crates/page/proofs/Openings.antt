@@ -6,13 +6,15 @@ use Rattle.answers.specs.Replies.{refused_as}
 use Rattle.answers.specs.declared.Refusal.{Refusal}
 use Rattle.format.specs.Editions.{editions}
 use Rattle.format.specs.Opening.{Opened, open_column, head_ok, length_ok}
-use Rattle.format.specs.LookUp.{Look, halved, steps, look_up, look_up_in}
+use Rattle.format.specs.LookUp.{halved, steps, look_up, look_up_in}
 use Rattle.laws.proofs.Cases.{true_or}
 use Rattle.column.specs.Opened.{column_of, opened_of, judged_as}
 use Rattle.column.specs.declared.Column.{Column}
-use Rattle.column.specs.declared.Opening as Od
 use Rattle.lookup.proofs.Calls.{opened_fits}
 use Rattle.page.specs.Openings.{look_by, Fit}
+use Rattle.std.specs.Prelude.{Ok, Err}
+use Rattle.std.specs.declared.result.Result.{Result}
+use Rattle.answers.specs.declared.Refusal as Re
 
 module _ (bytes : List ℕ) (id : ℕ) where
   pub above_by : (o : Outcome Opened) → leb id max_id ≡ false → look_by bytes o id ≡ refused ID 0
@@ -49,6 +51,6 @@ answers_by bytes o e (id ∷ ids) =
     ap₂ (λ x l. x ∷ l) (ap (λ (q : Outcome Opened). look_by bytes q id) e ∙ up_by bytes id) (answers_by bytes o e ids)
 
 -- an opening of these bytes fits them
-pub open_fits : (bytes : List ℕ) (r : Od.Opening) → opened_of r ≡ open_column editions bytes → Fit bytes r
-open_fits bytes (Od.Opening.Open c) e = opened_fits bytes (column_of c) (sym e)
-open_fits bytes (Od.Opening.Refused why) e = tt
+pub open_fits : (bytes : List ℕ) (r : Result Column Re.Refusal) → opened_of r ≡ open_column editions bytes → Fit bytes r
+open_fits bytes (Ok c) e = opened_fits bytes (column_of c) (sym e)
+open_fits bytes (Err why) e = tt

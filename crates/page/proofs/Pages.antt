@@ -7,7 +7,6 @@ use Rattle.format.specs.Editions.{editions}
 use Rattle.format.specs.LookUp.{Look, look_up}
 use Rattle.format.specs.Page.{place_kind, place_ordinal, place_value, place_words, page, page_words, page_reply, page_after}
 use Rattle.answers.specs.Replies.{refusal_number}
-use Rattle.answers.specs.declared.Reply as Rp
 use Rattle.answers.specs.declared.Refusal as Re
 use Rattle.laws.proofs.Cases.{below_or, equal_or}
 use Rattle.laws.proofs.Paged.{enough, stored}
@@ -16,6 +15,7 @@ use Rattle.page.specs.Placed.{Holds, Stored, Room, Paged, Leaves}
 use Rattle.page.specs.Parts.{Lists, place_in, Kept, total, answer_of, words_at, answered_at, Filled}
 use Rattle.page.specs.declared.Held.{Held}
 use Rattle.page.proofs.Parts.{total_join, other, here, keeps, kept_both, holds_so}
+use Rattle.std.specs.Prelude.{Ok, Err}
 
 get_D_of_map : {A B : Type 0} (g : B → A) (xs : List B) (i : ℕ) (b : B) (d : A) → i < length xs → get_or (map g xs) i d ≡ g (get_or xs i b)
 get_D_of_map g [] i b d h = absurd (omega arith)
@@ -177,13 +177,13 @@ ends look ids {i} {l} {m} g h r =
 -- ---- the reply and the lists
 
 pub refused_so : (p : Outcome (List (Outcome Look))) (n : ℕ) (os : List ℕ) (vs : List ℤ) (ks : List ℕ) → p ≡ refused BUFFER n
-    → Leaves p (Rp.Reply.Refused (Re.Refusal.Buffer n)) os os vs vs ks ks
+    → Leaves p (Err (Re.Refusal.Buffer n)) os os vs vs ks ks
 unfolding page_reply page_after
 refused_so p n os vs ks e = rw e (refl, (refl, (refl, refl)))
 
 pub done_so : (bytes ids : List ℕ) (w : ℕ) (os os' : List ℕ) (vs vs' : List ℤ) (ks ks' : List ℕ) → Room (length ids) (length os) (length vs) (length ks)
     → Paged (map (look_up editions bytes) ids) os os' vs vs' ks ks' w
-    → Leaves (page editions bytes ids (length os) (length vs) (length ks)) (Rp.Reply.Done w) os os' vs vs' ks ks'
+    → Leaves (page editions bytes ids (length os) (length vs) (length ks)) (Ok w) os os' vs vs' ks ks'
 unfolding page_reply
 done_so bytes ids w os os' vs vs' ks ks' r t =
     rw (enough editions bytes ids (length os) (length vs) (length ks) r.ordinals_long r.values_long r.kinds_long) (

@@ -1,6 +1,6 @@
 -- A part of a page, place by place: sums of words, what a store leaves, and one place more. Assumes nothing.
 use Rattle.format.specs.Kit.{◌≡◌, refl, sym, ap, ◌∙◌, subst, List, ℕ, zero, suc, ◌+◌, ◌-◌, ◌%◌, ◌^◌, ◌≤◌, ◌<◌, add-zero, arith, pos, length}
-use Rattle.format.specs.Kit.{set, length-set, get_or-set_same, get_or-set_other}
+use Rattle.format.specs.Kit.{length-set, get_or-set_same, get_or-set_other}
 use Rattle.format.specs.Refusals.{Outcome}
 use Rattle.format.specs.LookUp.{Look}
 use Rattle.laws.proofs.Cases.{equal_or}

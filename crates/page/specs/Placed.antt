@@ -5,8 +5,9 @@ use Rattle.format.specs.Refusals.{Outcome}
 use Rattle.format.specs.LookUp.{Look}
 use Rattle.format.specs.Page.{place_kind, place_ordinal, place_value, place_words, page_words, page_reply, page_after}
 use Rattle.answers.specs.Replies.{reply_of}
-use Rattle.answers.specs.declared.Reply as Rp
 use Rattle.page.specs.declared.Held.{Held}
+use Rattle.std.specs.declared.result.Result.{Result}
+use Rattle.answers.specs.declared.Refusal as Re
 
 -- what a place holds is that of an answer
 pub record Holds (x : Outcome Look) (h : Held) : Type 0 where
@@ -35,7 +36,7 @@ pub record Paged (xs : List (Outcome Look)) (os os' : List ℕ) (vs vs' : List �
   pub words : w ≡ page_words xs % 2 ^ 64
 
 -- the call's reply, and each list
-abbrev pub Leaves : Outcome (List (Outcome Look)) → Rp.Reply → List ℕ → List ℕ → List ℤ → List ℤ → List ℕ → List ℕ → Type 0
+abbrev pub Leaves : Outcome (List (Outcome Look)) → Result ℕ Re.Refusal → List ℕ → List ℕ → List ℤ → List ℤ → List ℕ → List ℕ → Type 0
 Leaves p r os os' vs vs' ks ks' =
     (reply_of r ≡ page_reply p)
     × ((os' ≡ page_after place_ordinal p os) × ((vs' ≡ page_after place_value p vs) × (ks' ≡ page_after place_kind p ks)))

@@ -8,7 +8,7 @@ ghost use Rattle.scaled_values.specs.Slots.{Stands, slot_number};
 ghost use Rattle.values.specs.Edition.{edition_of, order_of};
 
 use packings::Order;
-use scaled_values::Slotted;
+use scaled_values::Slot;
 use values::Edition;
 
 // Whether the eight bytes from `at` on are there, and hold w bits after up to seven others.
@@ -33,11 +33,11 @@ fn plain_number(s: &[u8], w: usize, i: usize) -> u64
 }
 
 // The number in a slot, of a column of edition 1,
-pub fn plain_in(section: &[u8], slot: Slotted) -> u64
+pub fn plain_in(section: &[u8], slot: Option<Slot>) -> u64
     requires { Stands Order.High section.now slot }
     ensures { result ≡ slot_number Order.High section.now slot }
 {
-    let Slotted::At(at) = slot else {
+    let Some(at) = slot else {
         return 0;
     };
     let start = at.start;
@@ -45,7 +45,7 @@ pub fn plain_in(section: &[u8], slot: Slotted) -> u64
 }
 
 // and of any.
-pub fn number_of(section: &[u8], edition: Edition, slot: Slotted) -> u64
+pub fn number_of(section: &[u8], edition: Edition, slot: Option<Slot>) -> u64
     requires { Stands (order_of (edition_of edition)) section.now slot }
     ensures { result ≡ slot_number (order_of (edition_of edition)) section.now slot }
 {

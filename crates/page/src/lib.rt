@@ -17,14 +17,13 @@ ghost use Rattle.page.specs.Parts.{three, Filled};
 ghost use Rattle.page.specs.Placed.{Holds, Stored, Room, Paged, Leaves};
 ghost use Rattle.page.specs.Runs.{Run, Way};
 
-use answers::{Refusal, Reply};
+use answers::Refusal;
 use blocks::Block;
-use column::{Column, Opening};
+use column::Column;
 use lookup::Step;
 use marks::Mark;
 use runs::Part;
-use scaled_values::Slotted;
-use values::Fetched;
+use scaled_values::Slot;
 
 mod fetching;
 mod marks;
@@ -32,13 +31,13 @@ mod runs;
 
 // ---- one place of the page
 
-// The kinds of an answer as a page has them.
+// The kinds of an answer as a page has them. (Numbers, and no enum: C lends the list of kinds as bytes.)
 const FOUND: u8 = answers::FOUND as u8;
 
 const ABSENT: u8 = answers::ABSENT as u8;
 
-// What a place holds, and the words that count. (Ordinal and value stand apart, as in `next::Sum`.)
-#[derive(Clone, Copy)]
+// What a place holds, and the words that count. (Ordinal and value stand apart, as in `answers::Pair`.)
+#[derive(Clone, Copy, Debug, PartialEq, Eq)]
 struct Held {
     ordinal: u64,
     kind: u8,
@@ -78,9 +77,9 @@ fn valued(bytes: &[u8], column: Column, ordinal: u64, words: u64) -> Held
     let section = &bytes[end..];
     let edition = head.edition;
     let fields = head.fields;
-    let slot: Slotted = values::slot_of(section, edition, head.count, fields, ordinal);
+    let slot: Option<Slot> = values::slot_of(section, edition, head.count, fields, ordinal);
     let stored = fetching::number_of(section, edition, slot);
-    let Fetched::Value(value) = values::value_of(section, edition, fields, slot, stored) else {
+    let Some(value) = values::value_of(section, edition, fields, slot, stored) else {
         return refused(Refusal::Broken);
     };
     Held {
@@ -165,8 +164,7 @@ fn fill_any(
     let mut numbers = [Block::PLACES; SLOTS];
     let mut steps = [none; SLOTS];
     let mut anew: usize = 0;
-    let mut i = from;
-    while i < e {
+    for i in from..e {
         let id = ids[i];
         let number = blocks::number_of(id);
         let slot = number % SLOTS;
@@ -180,7 +178,6 @@ fn fill_any(
         let held = held_in(bytes, column, id, met);
         put(ordinals, values, kinds, i, held);
         words = std::num::wrapping_add_u64(words, held.words);
-        i += 1;
     }
     words
 }
@@ -207,14 +204,12 @@ fn fill_run(
 {
     let mut words = counted;
     let mut entry: usize = 0;
-    let mut i = from;
-    while i < e {
+    for i in from..e {
         let id = ids[i];
         entry = runs::next_entry(bytes, column, block, id, entry);
         let held = runs::held_next(bytes, column, block, id, entry);
         put(ordinals, values, kinds, i, held);
         words = std::num::wrapping_add_u64(words, held.words);
-        i += 1;
     }
     words
 }
@@ -292,12 +287,10 @@ fn refuse(
         values.old values.new kinds.old kinds.new result }
 {
     let mut words: u64 = 0;
-    let mut i: usize = 0;
-    while i < ids.len() {
-        let place = unopened(why, ids[i]);
+    for (i, id) in ids.iter().enumerate() {
+        let place = unopened(why, *id);
         put(ordinals, values, kinds, i, place);
         words = std::num::wrapping_add_u64(words, place.words);
-        i += 1;
     }
     words
 }
@@ -309,15 +302,15 @@ pub fn fill_by(
     kinds: &mut [u8],
     ids: &[u32],
     bytes: &[u8],
-    opening: Opening,
+    opening: Result<Column, Refusal>,
 ) -> u64
     requires { (Fit bytes.now opening) × (Room (length ids.now) (length ordinals.old) (length values.old) (length kinds.old)) }
     ensures { Paged (map (look_by bytes.now (opened_of opening)) ids.now) ordinals.old ordinals.new
         values.old values.new kinds.old kinds.new result }
 {
     match opening {
-        Opening::Refused(why) => refuse(ordinals, values, kinds, ids, why),
-        Opening::Open(c) => fill(ordinals, values, kinds, ids, bytes, c),
+        Err(why) => refuse(ordinals, values, kinds, ids, why),
+        Ok(c) => fill(ordinals, values, kinds, ids, bytes, c),
     }
 }
 
@@ -328,7 +321,7 @@ pub fn look_up_page(
     ordinals: &mut [u64],
     values: &mut [i64],
     kinds: &mut [u8],
-) -> Reply
+) -> Result<u64, Refusal>
     ensures { Leaves
         (page editions bytes.now ids.now (length ordinals.old) (length values.old)
         (length kinds.old)) result ordinals.old ordinals.new values.old values.new
@@ -336,17 +329,17 @@ pub fn look_up_page(
 {
     let n = ids.len();
     if ordinals.len() < n {
-        return Reply::Refused(Refusal::Buffer(n as u64));
+        return Err(Refusal::Buffer(n as u64));
     }
     if values.len() < n {
-        return Reply::Refused(Refusal::Buffer(n as u64));
+        return Err(Refusal::Buffer(n as u64));
     }
     if kinds.len() < n {
-        return Reply::Refused(Refusal::Buffer(n as u64));
+        return Err(Refusal::Buffer(n as u64));
     }
     if n == 0 {
-        return Reply::Done(0);
+        return Ok(0);
     }
     let opening = Column::open(bytes);
-    Reply::Done(fill_by(ordinals, values, kinds, ids, bytes, opening))
+    Ok(fill_by(ordinals, values, kinds, ids, bytes, opening))
 }

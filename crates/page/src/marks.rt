@@ -17,8 +17,9 @@ use lookup::Step;
 
 // ---- steps 5 and 6
 
-// Where an id stands: its ordinal and the words counted; not there, with the words; or a failed step.
-#[derive(Clone, Copy)]
+// Where an id stands: its ordinal and the words counted; not there, with the words; or a failed step. (An enum as `lookup::Step` is, for
+// its reason.)
+#[derive(Clone, Copy, Debug, PartialEq, Eq)]
 pub enum Mark {
     At { ordinal: u64, words: u64 },
     Absent { words: u64 },

@@ -22,13 +22,13 @@ use answers::Refusal;
 use blocks::{Block, Kind};
 use column::Column;
 use lookup::Step;
-use scaled_values::Slotted;
-use values::{Edition, Fetched};
+use scaled_values::Slot;
+use values::Edition;
 
 // ---- which ids are a run
 
 // A part of the page: where it ends, and whether its ids are a run.
-#[derive(Clone, Copy)]
+#[derive(Clone, Copy, Debug, PartialEq, Eq)]
 pub struct Part {
     pub end: usize,
     pub run: bool,
@@ -46,14 +46,12 @@ fn run_end(ids: &[u32], i: usize) -> usize
     requires { i < length ids.now }
     ensures { (i < result) × (result ≤ length ids.now) × (Run ids.now i result) }
 {
-    let mut e = i + 1;
-    while e < ids.len() {
+    for e in i + 1..ids.len() {
         if !follows(ids[e - 1], ids[e]) {
             return e;
         }
-        e += 1;
     }
-    e
+    ids.len()
 }
 
 // The part from i on: a run, if it is long enough to be worth it.
@@ -90,12 +88,10 @@ fn climb(s: &[u8], at: usize, count: usize) -> bool
     ensures { result ≡ true → Climbs s.now at count }
 {
     let mut right = true;
-    let mut i = 1;
-    while i < count {
+    for i in 1..count {
         let x = numbers::short_at(s, at + 2 * i);
         let y = numbers::short_at(s, at + 2 * (i - 1));
         right = above(right, x, y);
-        i += 1;
     }
     right
 }
@@ -105,14 +101,12 @@ fn reached(s: &[u8], at: usize, count: usize, from: usize, r: u64) -> usize
     requires { (at + 2 * count ≤ length s.now) × (from ≤ count) × (Ready s.now at from r) }
     ensures { Reached s.now at count result r }
 {
-    let mut j = from;
-    while j < count {
+    for j in from..count {
         if r <= numbers::short_at(s, at + 2 * j) {
             return j;
         }
-        j += 1;
     }
-    j
+    count
 }
 
 // Place r of a sparse block, where j is the first entry that is not below it.
@@ -206,10 +200,9 @@ fn plain_valued(bytes: &[u8], column: Column, ordinal: u64, words: u64) -> Held
     let end = numbers::size(column.start) + numbers::size(head.id_bytes);
     let section = &bytes[end..];
     let fields = head.fields;
-    let slot: Slotted = values::slot_of(section, Edition::Plain, head.count, fields, ordinal);
+    let slot: Option<Slot> = values::slot_of(section, Edition::Plain, head.count, fields, ordinal);
     let stored = super::fetching::plain_in(section, slot);
-    let Fetched::Value(value) = values::value_of(section, Edition::Plain, fields, slot, stored)
-    else {
+    let Some(value) = values::value_of(section, Edition::Plain, fields, slot, stored) else {
         return refused(Refusal::Broken);
     };
     Held {

@@ -1,7 +1,7 @@
 -- The bit that is set after so many others: within a long, and long by long. Assumes nothing.
-use Rattle.format.specs.Kit.{◌≡◌, refl, sym, ap, ◌∙◌, List, some, ℕ, zero, suc, ◌+◌, ◌-◌, ◌*◌, ◌/◌, ◌%◌, ◌^◌, ◌≤◌, ◌<◌, arith, ones_in, count_trailing_zeros}
+use Rattle.format.specs.Kit.{◌≡◌, refl, ap, ◌∙◌, List, some, ℕ, zero, suc, ◌+◌, ◌-◌, ◌*◌, ◌/◌, ◌%◌, ◌^◌, ◌≤◌, ◌<◌, arith, ones_in, count_trailing_zeros}
 use Rattle.format.specs.Kit.{mod-eq_of_lt}
-use Rattle.format.specs.Kit.{sub-zero, suc-add, eq-eqb, ne_eqb}
+use Rattle.format.specs.Kit.{eq-eqb, ne_eqb}
 use Rattle.format.specs.Bytes.{low_at}
 use Rattle.laws.proofs.Cases.{below_or, equal_or}
 use Rattle.next_in_block.proofs.Trailing.{first_set}

@@ -1,5 +1,7 @@
 -- The place with an index, in each kind of block. Assumes nothing.
-use Rattle.format.specs.Kit.{◌≡◌, refl, sym, ap, ◌∙◌, List, Option, none, some, ℕ, ◌+◌, ◌-◌, ◌*◌, ◌/◌, ◌^◌, ◌≤◌, ◌<◌, arith, eq-eqb, ne_eqb, lt-ltb, le-leb}
+use Rattle.std.specs.Prelude as Std
+use Rattle.std.specs.Prelude.{Some, None}
+use Rattle.format.specs.Kit.{◌≡◌, refl, sym, ap, ◌∙◌, List, some, ℕ, ◌+◌, ◌-◌, ◌*◌, ◌/◌, ◌^◌, ◌≤◌, ◌<◌, arith, eq-eqb, ne_eqb, le-leb}
 use Rattle.format.specs.Kit.{lt-leb, zero-mul, pow_pos}
 use Rattle.format.specs.Limits.{Power}
 use Rattle.format.specs.Bytes.{low_at}
@@ -10,16 +12,6 @@ use Rattle.laws.proofs.Dense.{stride_bits}
 use Rattle.format.specs.PairAt.{bit_after, dense_with, place_with}
 use Rattle.pair_at.specs.Held.{PlaceIs, stride_of, stride_places}
 
--- a place, or all places for none
-pub place_some : (r : ℕ) (o : Option ℕ) → PlaceIs r o → (r ≡ 65536 → ⊥) → o ≡ some r
-place_some r o e h = e.0 ∙ rw (lt-ltb r 65536 (omega (arith, e.1))) refl
-
-pub place_none : (r : ℕ) (o : Option ℕ) → PlaceIs r o → r ≡ 65536 → o ≡ none
-place_none r o e h = e.0 ∙ rw h refl
-
-pub is_place : (r : ℕ) (o : Option ℕ) → o ≡ some r → r < 65536 → PlaceIs r o
-is_place r o e h = (e ∙ rw (lt-ltb r 65536 h) refl, omega arith)
-
 -- ---- dense
 
 -- a stride has places
@@ -27,9 +19,9 @@ pub places_some : (p : ℕ) → 0 < stride_places p
 places_some p = equal_or p 0 (λ e. rw (eq-eqb p 0 e) (omega arith)) (λ e. rw (ne_eqb p 0 e) (pow_pos p))
 
 module _ (p : ℕ) (h : Power p) (s : List ℕ) (t i x : ℕ) (ex : x ≡ stride_of p s t i * 2 ^ p) (rank : ℕ) (er : rank ≡ stride_rank p s t x) where
-  pub dense_low_lem : i < rank → PlaceIs 65536 (dense_with p s t i)
+  pub dense_low_lem : i < rank → PlaceIs None (dense_with p s t i)
   unfolding dense_with
-  dense_low_lem l = (rw (← ex, ← er, lt-leb rank i l) refl, omega arith)
+  dense_low_lem l = rw (← ex, ← er, lt-leb rank i l) refl
 
   -- a stride starts with a long
   aligned : 64 * (x / 64) ≡ x
@@ -38,7 +30,7 @@ module _ (p : ℕ) (h : Power p) (s : List ℕ) (t i x : ℕ) (ex : x ≡ stride
       (λ e. let z : x ≡ 0 = ex ∙ rw (eq-eqb p 0 e) (zero-mul (2 ^ p)) in omega arith)
       (λ e. omega (arith, ex, stride_bits p (stride_of p s t i) (omega (arith, h.least e))))
 
-  pub dense_rest : rank ≤ i → (m d r : ℕ) → m ≡ t + rank_bytes p → 64 * d ≡ stride_places p
+  pub dense_rest : rank ≤ i → (m d : ℕ) (r : Std.Option ℕ) → m ≡ t + rank_bytes p → 64 * d ≡ stride_places p
       → PlaceIs r (bit_after s m (64 * (x / 64 + d - x / 64)) (64 * (x / 64)) (i - rank)) → PlaceIs r (dense_with p s t i)
   unfolding dense_with
   dense_rest l m d r em ed w =
@@ -48,15 +40,15 @@ module _ (p : ℕ) (h : Power p) (s : List ℕ) (t i x : ℕ) (ex : x ≡ stride
 
 -- ---- each kind
 
-module _ (p : ℕ) (s : List ℕ) (t c i r : ℕ) where
-  pub of_sparse : kind_of c ≡ sparse → r ≡ low_at 2 s (t + 2 * i) → r < 65536 → PlaceIs r (place_with p s t c i)
+module _ (p : ℕ) (s : List ℕ) (t c i : ℕ) where
+  pub of_sparse : (r : ℕ) → kind_of c ≡ sparse → r ≡ low_at 2 s (t + 2 * i) → r < 65536 → PlaceIs (Some r) (place_with p s t c i)
   unfolding place_with by_kind
-  of_sparse e f h = is_place r _ (rw e (ap (λ (n : ℕ). some n) (sym f))) h
+  of_sparse r e f h = (rw e (ap (λ (n : ℕ). some n) (sym f)), h)
 
-  pub of_dense : kind_of c ≡ dense → PlaceIs r (dense_with p s t i) → PlaceIs r (place_with p s t c i)
+  pub of_dense : (r : Std.Option ℕ) → kind_of c ≡ dense → PlaceIs r (dense_with p s t i) → PlaceIs r (place_with p s t c i)
   unfolding place_with by_kind
-  of_dense e w = rw e w
+  of_dense r e w = rw e w
 
-  pub of_all : kind_of c ≡ all → r ≡ i → i < 65536 → PlaceIs r (place_with p s t c i)
+  pub of_all : (r : ℕ) → kind_of c ≡ all → r ≡ i → i < 65536 → PlaceIs (Some r) (place_with p s t c i)
   unfolding place_with by_kind
-  of_all e f h = is_place r _ (rw e (ap (λ (n : ℕ). some n) (sym f))) (omega arith)
+  of_all r e f h = (rw e (ap (λ (n : ℕ). some n) (sym f)), omega arith)

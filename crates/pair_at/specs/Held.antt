@@ -1,6 +1,7 @@
 -- The block that holds an ordinal, and the place with an index there. Assumes nothing.
-use Rattle.std.specs.Prelude.{◌+◌, ◌-◌, ◌*◌, ◌^◌, ◌≤◌, ◌<◌, ◌≡◌, ◌&&◌, ◌||◌}
-use Rattle.format.specs.Kit.{ℕ, cond, true, false, List, Option, none, some, leb, ltb, eqb, length}
+use Rattle.std.specs.Prelude as Std
+use Rattle.std.specs.Prelude.{Some, None, ◌+◌, ◌-◌, ◌*◌, ◌^◌, ◌≤◌, ◌<◌, ◌≡◌, ◌&&◌, ◌||◌, MatchOption}
+use Rattle.format.specs.Kit.{ℕ, cond, true, false, List, Option, none, some, leb, eqb, length}
 use Rattle.format.specs.Limits.{max_block, block_places}
 use Rattle.format.specs.Refusals.{Outcome, refused, and_then, given, done, BROKEN}
 use Rattle.format.specs.Bytes.{low_at, high_at}
@@ -12,13 +13,12 @@ use Rattle.blocks.specs.declared.Block.{Block}
 use Rattle.lookup.specs.declared.Ask.{Ask}
 use Rattle.next.specs.Blocks.{AskedOf}
 use Rattle.format.specs.PairAt.{last_up_to, place_with, pair_steps}
-use Rattle.pair_at.specs.declared.Held as He
 
 -- ---- a place
 
--- all places stand for none
-abbrev pub PlaceIs : ℕ → Option ℕ → Type 0
-PlaceIs r o = (o ≡ cond (ltb r block_places) (some r) none) × (r ≤ block_places)
+-- the place, which is one of a block's
+abbrev pub PlaceIs : Std.Option ℕ → Option ℕ → Type 0
+PlaceIs r o = MatchOption r (o ≡ none) (λ y. (o ≡ some y) × (y < block_places))
 
 -- the stride that holds index i, and how many places a stride has
 abbrev pub stride_of : ℕ → List ℕ → ℕ → ℕ → ℕ
@@ -33,9 +33,9 @@ stride_places p = cond (eqb p 0) block_places (2 ^ p)
 abbrev pub number_ok : List ℕ → ℕ → ℕ → ℕ → ℕ → Type 0
 number_ok s a j b t = (leb (t + 4) a ≡ true) × ((leb (low_at 2 s t) max_block && (eqb j 0 || eqb (low_at 2 s t) b)) ≡ true)
 
-pub record NumberAt (s : List ℕ) (a j b t r : ℕ) : Type 0 where
-  pub fails : r ≡ max_block + 1 → (leb (t + 4) a && (leb (low_at 2 s t) max_block && (eqb j 0 || eqb (low_at 2 s t) b))) ≡ false
-  pub passes : (r ≡ max_block + 1 → ⊥) → number_ok s a j b t × (r ≡ low_at 2 s t) × (t + 4 ≤ a) × (r ≤ max_block)
+abbrev pub NumberAt : List ℕ → ℕ → ℕ → ℕ → ℕ → Std.Option ℕ → Type 0
+NumberAt s a j b t None = (leb (t + 4) a && (leb (low_at 2 s t) max_block && (eqb j 0 || eqb (low_at 2 s t) b))) ≡ false
+NumberAt s a j b t (Some r) = number_ok s a j b t × (r ≡ low_at 2 s t) × (t + 4 ≤ a) × (r ≤ max_block)
 
 -- what is left: the place, and then step 7
 abbrev pub pair_left : List ℕ → Opened → ℕ → ℕ → Option ℕ → Outcome Candidate
@@ -53,6 +53,6 @@ pub record HeldIn (s : List ℕ) (q : Ask) (ordinal k : ℕ) (x : Block) : Type 
   pub below : ordinal < x.ordinal + x.count
 
 -- of any column with this id section
-abbrev pub HeldAs : List ℕ → Ask → ℕ → He.Held → Type 0
-HeldAs s q ordinal (He.Held.In k x) = HeldIn s q ordinal k x
-HeldAs s q ordinal He.Held.Broken = (bytes : List ℕ) (c : Opened) → AskedOf c q → id_part bytes c ≡ s → pair_steps bytes c ordinal ≡ refused BROKEN 0
+abbrev pub HeldAs : List ℕ → Ask → ℕ → Std.Option (ℕ × Block) → Type 0
+HeldAs s q ordinal (Some x) = HeldIn s q ordinal x.0 x.1
+HeldAs s q ordinal None = (bytes : List ℕ) (c : Opened) → AskedOf c q → id_part bytes c ≡ s → pair_steps bytes c ordinal ≡ refused BROKEN 0

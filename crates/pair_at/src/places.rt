@@ -1,6 +1,7 @@
 // The place with an index in a block: a sparse block's entry, a dense block's bit by ranks and longs, a full block's own.
 ghost use Rattle.std.specs.Prelude.{◌≡◌, ◌+◌, ◌-◌, ◌*◌, ◌/◌, ◌%◌, ◌^◌, ◌≤◌, ◌<◌, length};
 ghost use Rattle.std.specs.Int.Count.{ones_in};
+ghost use Rattle.format.specs.Bytes.{high_at};
 ghost use Rattle.format.specs.Limits.{Power, block_places, bitmap_bytes, bitmap_longs};
 ghost use Rattle.format.specs.Ids.{kind_of, rank_bytes, data_bytes};
 ghost use Rattle.blocks.specs.Kinds.{kind_is};
@@ -16,33 +17,29 @@ fn nth_one(long: u64, j: u64) -> usize
 {
     let mut bits = long;
     let mut y = 0;
-    let mut left = j;
-    while 0 < left {
+    for passed in 0..j {
         let z = next_in_block::zeros_below(bits);
         bits = next_in_block::bits_above(bits, z);
         y = y + z + 1;
-        left -= 1;
     }
     y + next_in_block::zeros_below(bits)
 }
 
-// The place, in the longs at m from `first` up to `end`, whose bit is set after `index` others; all places, if there is none.
-fn in_longs(s: &[u8], m: usize, first: usize, end: usize, index: u64) -> usize
+// The place, in the longs at m from `first` up to `end`, whose bit is set after `index` others.
+fn in_longs(s: &[u8], m: usize, first: usize, end: usize, index: u64) -> Option<usize>
     requires { (first ≤ end) × (end ≤ bitmap_longs) × (m + bitmap_bytes ≤ length s.now) }
     ensures { PlaceIs result (bit_after s.now m (64 * (end - first)) (64 * first) index) }
 {
-    let mut k = first;
     let mut j = index;
-    while k < end {
+    for k in first..end {
         let long = numbers::long_at(s, m + 8 * k);
         let ones = blocks::ones_of(long);
         if j < ones {
-            return 64 * k + nth_one(long, j);
+            return Some(64 * k + nth_one(long, j));
         }
         j -= ones;
-        k += 1;
     }
-    Block::PLACES
+    None
 }
 
 // The first place of the stride that holds index i, by the ranks at t.
@@ -53,7 +50,11 @@ fn stride_of(s: &[u8], t: usize, p: usize, i: u64) -> usize
     if p == 0 {
         return 0;
     }
-    crate::halving::last_rank(s, t, blocks::strides(p), i) << p
+    let rank = |q: usize| -> u64
+        requires { t + 2 * q + 2 ≤ length s.now }
+        ensures { result ≡ high_at 2 s.entry.now (t + 2 * q) }
+    { numbers::rank_at(s, t + 2 * q) };
+    crate::halving::last_up_to(rank, blocks::strides(p), i) << p
 }
 
 // The longs of a stride, or of the block without ranks.
@@ -67,21 +68,21 @@ fn longs_of(p: usize) -> usize
     blocks::stride(p)
 }
 
-fn in_dense(s: &[u8], t: usize, p: usize, i: u64) -> usize
+fn in_dense(s: &[u8], t: usize, p: usize, i: u64) -> Option<usize>
     requires { (Power p) × (t + rank_bytes p + bitmap_bytes ≤ length s.now) }
     ensures { PlaceIs result (dense_with p s.now t i) }
 {
     let x = stride_of(s, t, p, i);
     let rank = in_block::stride_rank(s, t, p, x);
     if i < rank {
-        return Block::PLACES;
+        return None;
     }
     let k = x / 64;
     in_longs(s, t + blocks::rank_bytes(p), k, k + longs_of(p), i - rank)
 }
 
-// The place with index i, below the block's count; all places, if there is none.
-pub fn place_with(s: &[u8], block: Block, p: usize, i: u64) -> usize
+// The place with index i, below the block's count.
+pub fn place_with(s: &[u8], block: Block, p: usize, i: u64) -> Option<usize>
     requires { (Power p) × (kind_is block.kind ≡ kind_of block.count) × (block.start + data_bytes p block.count ≤ length s.now)
         × (i < block.count) × (block.count ≤ block_places) }
     ensures { PlaceIs result (place_with p s.now block.start block.count i) }
@@ -89,8 +90,8 @@ pub fn place_with(s: &[u8], block: Block, p: usize, i: u64) -> usize
     let kind = block.kind;
     let start = block.start;
     match kind {
-        Kind::Sparse => numbers::size(numbers::short_at(s, start + 2 * numbers::size(i))),
+        Kind::Sparse => Some(numbers::size(numbers::short_at(s, start + 2 * numbers::size(i)))),
         Kind::Dense => in_dense(s, start, p, i),
-        Kind::All => numbers::size(i),
+        Kind::All => Some(numbers::size(i)),
     }
 }

@@ -10,41 +10,39 @@ ghost use Rattle.format.specs.Writer.{write_reply, write_out};
 ghost use Rattle.answers.specs.Replies.{reply_of};
 ghost use Rattle.tables.specs.Marks.{marked};
 
-use answers::{Refusal, Reply};
+use answers::Refusal;
 
 // ---- the small check
 
-// Sets a mark at each value's place. Whether each value is there.
-fn mark_by(marks: &mut [u8], guesses: &mut [u8], table: &[i64], values: &[i64]) -> bool
-    requires { (ascends table.now ≡ true) × (length table.now ≤ length marks.old) × (1 ≤ length guesses.old) × (length guesses.old ≤ 4096) }
+// Sets a mark at each value's place, with G guesses. Whether each value is there.
+fn mark_by<const G: usize>(marks: &mut [u8], table: &[i64], values: &[i64]) -> bool
+    requires { (ascends table.now ≡ true) × (length table.now ≤ length marks.old) × (1 ≤ G) × (G ≤ 4096) }
     ensures { (result ≡ all_in table.now values.now)
         × (result ≡ true → marks.new ≡ marked marks.old (map (code_in table.now) values.now)) }
 {
-    let mut i = 0;
-    while i < values.len() {
-        let b = signed::biased(values[i]);
-        let k = tables::place_of(guesses, table, b);
+    let mut guesses = [0u8; G];
+    for x in values {
+        let b = signed::biased(*x);
+        let k = tables::place_of(&mut guesses, table, b);
         if !tables::has(table, k, b) {
             return false;
         }
         marks[k] = 1;
-        i += 1;
     }
     true
 }
 
-// The same, with guesses of its own.
+// The same, with as many guesses as so many values are worth.
 fn mark(marks: &mut [u8], table: &[i64], values: &[i64]) -> bool
     requires { (ascends table.now ≡ true) × (length table.now ≤ length marks.old) }
     ensures { (result ≡ all_in table.now values.now)
         × (result ≡ true → marks.new ≡ marked marks.old (map (code_in table.now) values.now)) }
 {
     if values.len() < tables::MANY {
-        let mut few = [0u8; tables::FEW_GUESSES];
-        return mark_by(marks, &mut few, table, values);
+        mark_by::<{ tables::FEW_GUESSES }>(marks, table, values)
+    } else {
+        mark_by::<{ tables::GUESSES }>(marks, table, values)
     }
-    let mut guesses = [0u8; tables::GUESSES];
-    mark_by(marks, &mut guesses, table, values)
 }
 
 // Whether the entries, which ascend, are the values, and no other.
@@ -87,19 +85,6 @@ pub fn accepts(table: &[i64], values: &[i64]) -> bool
 
 // ---- the planner
 
-// Stores the entries from the buffer's front on.
-fn copy(out: &mut [i64], table: &[i64])
-    requires { length table.now ≤ length out.old }
-    ensures { out.new ≡ table.now ++ drop (length table.now) out.old }
-{
-    let mut i = 0;
-    while i < table.len() {
-        let v = table[i];
-        out[i] = v;
-        i += 1;
-    }
-}
-
 // The plan for the values: a table wherever the small check takes one, else plain, which is no entry. How many entries.
 pub fn plan(out: &mut [i64], values: &[i64]) -> usize
     requires { max_entries ≤ length out.old }
@@ -120,17 +105,17 @@ pub fn plan(out: &mut [i64], values: &[i64]) -> usize
     if !table_values::saves(&table[..t], numbers::long(values.len())) {
         return 0;
     }
-    copy(out, &table[..t]);
+    out[..t].copy_from_slice(&table[..t]);
     t
 }
 
 // The same into a lent table of any length: 12 with 256 where it has fewer places than a table may have entries.
-pub fn propose(out: &mut [i64], values: &[i64]) -> Reply
+pub fn propose(out: &mut [i64], values: &[i64]) -> Result<u64, Refusal>
     ensures replies { reply_of result ≡ write_reply (plan values.now (length out.old)) }
     ensures proposed { out.new ≡ write_out (plan values.now (length out.old)) out.old }
 {
     if out.len() < limits::MAX_ENTRIES {
-        return Reply::Refused(Refusal::Buffer(limits::MAX_ENTRIES as u64));
+        return Err(Refusal::Buffer(limits::MAX_ENTRIES as u64));
     }
-    Reply::Done(numbers::long(plan(out, values)))
+    Ok(numbers::long(plan(out, values)))
 }

@@ -1,6 +1,8 @@
 -- The end of a reading: where it stops, its lists and its reply. Assumes nothing.
 use Rattle.format.specs.Kit.{◌≡◌, refl, sym, ap, ◌∙◌, inl, inr, ◌⊎◌, true, List, ◌++◌, ℕ, zero, suc, ◌-◌, ◌≤◌, ◌<◌, arith, ℤ, length, drop}
-use Rattle.format.specs.Refusals.{Outcome, done, refused, and_then, BROKEN}
+use Rattle.format.specs.Refusals.{Outcome, done, refused, and_then}
+use Rattle.answers.specs.declared.Refusal.{Refusal}
+use Rattle.answers.specs.Replies.{refused_as}
 use Rattle.format.specs.Opening.{Opened}
 use Rattle.format.specs.Next.{Candidate, no_candidate, next_steps}
 use Rattle.laws.proofs.Stores.{filled, reached, sets_front}
@@ -18,10 +20,11 @@ module _ (bytes : List ℕ) (c : Opened) (t : ℕ) where
   stops_none zero e = refl
   stops_none (suc k) e = rw e refl
 
-  pub stops_refused : (k : ℕ) → next_steps bytes c t ≡ refused BROKEN 0 → pairs_from k bytes c t ≡ no_more (is_none (next_steps bytes c t))
+  pub stops_refused : (k : ℕ) (why : Refusal) → next_steps bytes c t ≡ refused_as why
+      → pairs_from k bytes c t ≡ no_more (is_none (next_steps bytes c t))
   unfolding pairs_from goes_on is_none
-  stops_refused zero e = refl
-  stops_refused (suc k) e = rw e refl
+  stops_refused zero why e = refl
+  stops_refused (suc k) why e = rw e refl
 
 -- the call answers as soon as the first candidate is no refusal
 pub answers_so : (o : Outcome Candidate) (w : Readout) → answered o ≡ true → and_then o (λ x. done w) ≡ done w
@@ -32,9 +35,9 @@ answers_so (refused why x) w e = absurd (let z : ◌≡◌ {A = ℕ} 0 1 = cc in
 module _ (bytes : List ℕ) (c : Opened) (room t : ℕ) (ids : List ℕ) (vs : List ℤ) (i t' : ℕ) (ids' : List ℕ) (vs' : List ℤ)
     (w : Reads bytes c room 0 t ids vs i t' ids' vs') where
   -- the first candidate is refused
-  pub refuses : i ≡ 0 → next_steps bytes c t' ≡ refused BROKEN 0 → read_steps bytes c t room ≡ refused BROKEN 0
+  pub refuses : (why : Refusal) → i ≡ 0 → next_steps bytes c t' ≡ refused_as why → read_steps bytes c t room ≡ refused_as why
   unfolding read_steps and_then
-  refuses e f = rw (sym (w.none (sym e)) ∙ f) refl
+  refuses why e f = rw (sym (w.none (sym e)) ∙ f) refl
 
   -- it is not
   pub answers : (0 < i) ⊎ (answered (next_steps bytes c t') ≡ true) → read_steps bytes c t room ≡ done (pairs_from room bytes c t)

@@ -1,5 +1,5 @@
 -- Steps 1 to 4 for a block, told of each of its places. Assumes nothing.
-use Rattle.format.specs.Kit.{◌≡◌, refl, ◌∙◌, inl, inr, false, ◌&&◌, List, [], ◌∷◌, ℕ, ◌+◌, ◌≤◌, arith, leb, length}
+use Rattle.format.specs.Kit.{◌≡◌, refl, ◌∙◌, false, ◌&&◌, List, ℕ, ◌+◌, ◌≤◌, arith, leb, length}
 use Rattle.format.specs.Refusals.{Outcome}
 use Rattle.format.specs.Ids.{data_bytes}
 use Rattle.format.specs.LookUp.{Look, scanned}

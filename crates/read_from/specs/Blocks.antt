@@ -1,5 +1,6 @@
 -- What the code's reading over blocks stands for, and its answer. Assumes nothing.
-use Rattle.std.specs.Prelude.{◌+◌, ◌*◌, ◌≤◌, ◌<◌, ◌≡◌, ◌⊎◌}
+use Rattle.std.specs.Prelude.{◌+◌, ◌*◌, ◌≤◌, ◌<◌, ◌≡◌, ◌⊎◌, Ok, Err}
+use Rattle.std.specs.declared.result.Result.{Result}
 use Rattle.format.specs.Kit.{ℕ, Bool, true, false, List, ℤ, length}
 use Rattle.format.specs.Limits.{block_places}
 use Rattle.format.specs.Refusals.{Outcome, done, refused, BROKEN}
@@ -7,7 +8,8 @@ use Rattle.format.specs.Opening.{Opened, head_ok, length_ok, id_part}
 use Rattle.format.specs.LookUp.{absent, scanned, steps}
 use Rattle.format.specs.Next.{Candidate, no_candidate, next_steps}
 use Rattle.answers.specs.declared.Refusal as Re
-use Rattle.answers.specs.Replies.{readout_of}
+use Rattle.answers.specs.declared.Readout as Ro
+use Rattle.answers.specs.Replies.{refused_as, readout_of}
 use Rattle.lookup.specs.declared.Ask.{Ask}
 use Rattle.lookup.specs.declared.Step as St
 use Rattle.next.specs.Blocks.{AskedOf}
@@ -16,7 +18,6 @@ use Rattle.format.specs.ReadFrom.{answered, is_none, readout_reply, readout_afte
 use Rattle.read_in_block.specs.Parts.{Reads}
 use Rattle.read_in_block.specs.Stretch.{InBlock}
 use Rattle.read_from.specs.declared.Stop.{Stop}
-use Rattle.answers.specs.declared.Readout as Rd
 
 -- what steps 1 to 4 give for block b, told of each of its places
 abbrev pub BlockIs : List ℕ → Opened → ℕ → St.Step → Type 0
@@ -28,11 +29,11 @@ BlockIs bytes c b St.Step.Broken = (y : ℕ) → y < block_places → steps scan
 abbrev pub MetAs : List ℕ → Ask → ℕ → St.Step → Type 0
 MetAs s q b st = (bytes : List ℕ) (c : Opened) → AskedOf c q → id_part bytes c ≡ s → BlockIs bytes c b st
 
--- what comes next after so many pairs: 0 an id (after some a failed step too), 1 none, else a failed step
-pub record KindIs (kind count : ℕ) (o : Outcome Candidate) : Type 0 where
-  pub an_id : kind ≡ 0 → (is_none o ≡ false) × ((0 < count) ⊎ (answered o ≡ true))
-  pub none : kind ≡ 1 → o ≡ done no_candidate
-  pub failure : (kind ≡ 0 → ⊥) → (kind ≡ 1 → ⊥) → o ≡ refused BROKEN 0
+-- what comes next after so many pairs: none, an id (after some a failed step too), or a failed step
+abbrev pub EndIs : Result Bool Re.Refusal → ℕ → Outcome Candidate → Type 0
+EndIs (Ok true) count o = o ≡ done no_candidate
+EndIs (Ok false) count o = (is_none o ≡ false) × ((0 < count) ⊎ (answered o ≡ true))
+EndIs (Err why) count o = o ≡ refused_as why
 
 -- a column that keeps the header rules and fits its bytes, and lists with room for so many pairs
 pub record Roomy (bytes : List ℕ) (c : Opened) (room : ℕ) (ids : List ℕ) (vs : List ℤ) : Type 0 where
@@ -45,19 +46,18 @@ pub record Roomy (bytes : List ℕ) (c : Opened) (room : ℕ) (ids : List ℕ) (
 pub record FilledTo (bytes : List ℕ) (c : Opened) (room t : ℕ) (ids : List ℕ) (vs : List ℤ) (w : Stop) (ids' : List ℕ) (vs' : List ℤ) : Type 0 where
   pub target : ℕ
   pub reads : Reads bytes c room 0 t ids vs w.count target ids' vs'
-  pub kind : KindIs w.kind w.count (next_steps bytes c target)
-  pub full : w.kind ≡ 0 → w.count ≡ room
+  pub ended : EndIs w.ended w.count (next_steps bytes c target)
+  pub full : w.ended ≡ Ok false → w.count ≡ room
 
 -- ---- the answer
 
--- of a reading that stopped: none is left; an id is, or a step fails after a pair; or it fails before one
-pub record Told (w : Stop) (r : Rd.Readout) : Type 0 where
-  pub none : w.kind ≡ 1 → r ≡ Rd.Readout.Ended w.count
-  pub an_id : w.kind ≡ 0 → r ≡ Rd.Readout.More w.count
-  pub failure : (w.kind ≡ 0 → ⊥) → (w.kind ≡ 1 → ⊥) → (w.count ≡ 0 → ⊥) → r ≡ Rd.Readout.More w.count
-  pub first : (w.kind ≡ 0 → ⊥) → (w.kind ≡ 1 → ⊥) → w.count ≡ 0 → r ≡ Rd.Readout.Refused Re.Refusal.Broken
+-- of a reading that stopped after so many pairs: none is left; an id is; or a step fails, before the first pair or after one
+abbrev pub Told : Result Bool Re.Refusal → ℕ → Result Ro.Readout Re.Refusal → Type 0
+Told (Ok true) count r = r ≡ Ok (Ro.Readout.Ended count)
+Told (Ok false) count r = r ≡ Ok (Ro.Readout.More count)
+Told (Err why) count r = (count ≡ 0 → r ≡ Err why) × ((count ≡ 0 → ⊥) → r ≡ Ok (Ro.Readout.More count))
 
 -- the reply, and both lists
-abbrev pub Leaves : Outcome Rf.Readout → Rd.Readout → List ℕ → List ℕ → List ℤ → List ℤ → Type 0
+abbrev pub Leaves : Outcome Rf.Readout → Result Ro.Readout Re.Refusal → List ℕ → List ℕ → List ℤ → List ℤ → Type 0
 Leaves o r ids ids' vs vs' =
     (readout_of r ≡ readout_reply o) × ((ids' ≡ readout_after (λ w. w.ids) o ids) × (vs' ≡ readout_after (λ w. w.values) o vs))

@@ -11,16 +11,13 @@ ghost use Rattle.lookup.specs.Steps.{Fair};
 ghost use Rattle.next.specs.Blocks.{AskedOf};
 ghost use Rattle.format.specs.ReadFrom.{is_none, read_steps, read_from, read_from_in};
 ghost use Rattle.read_in_block.specs.Stretch.{Lent, StretchTo};
-ghost use Rattle.read_from.specs.Blocks.{MetAs, KindIs, Roomy, FilledTo, Told, Leaves};
+ghost use Rattle.read_from.specs.Blocks.{MetAs, EndIs, Roomy, FilledTo, Told, Leaves};
 
 use answers::{Readout, Refusal};
 use blocks::Block;
-use column::{Column, Opening};
-use lookup::{Ask, Room, Step};
+use column::Column;
+use lookup::{Ask, Step};
 use read_in_block::Stretch;
-
-// The blocks that ids have.
-const BLOCKS: usize = 32766;
 
 // Steps 1 to 4 for block b, and so for each of its places.
 fn met_in(s: &[u8], q: Ask, b: usize) -> Step
@@ -33,7 +30,7 @@ fn met_in(s: &[u8], q: Ask, b: usize) -> Step
     let Step::At(block) = met else {
         return met;
     };
-    let Room::Enough(block) = lookup::room_for(block, a, q.power, q.count) else {
+    let Some(block) = lookup::room_for(block, a, q.power, q.count) else {
         return Step::Broken;
     };
     Step::At(block)
@@ -79,38 +76,36 @@ fn block_from(
     }
 }
 
-// What comes next from a place of block b on: 0 an id (after pairs a failed step too), 1 none, 2 a failed step.
-fn kind_at(bytes: &[u8], column: Column, b: usize, place: usize) -> u64
+// Whether no id is left from a place of block b on; a failed step is a refusal.
+fn ended_at(bytes: &[u8], column: Column, b: usize, place: usize) -> Result<bool, Refusal>
     requires { (head_ok (column_of column).head ≡ true) × (length_ok bytes.now (column_of column) ≡ true) × (b ≤ max_block) × (place ≤ block_places) }
-    ensures { KindIs result 0 (next_steps bytes.now (column_of column) (b * block_places + place)) }
+    ensures { EndIs result 0 (next_steps bytes.now (column_of column) (b * block_places + place)) }
 {
     let id = b * Block::PLACES + place;
-    if id == BLOCKS * Block::PLACES {
-        return 1;
+    if id == next::BLOCKS * Block::PLACES {
+        return Ok(true);
     }
-    let sum = next::steps_from(bytes, column, id as u32);
-    sum.kind
+    let next = next::steps_from(bytes, column, id as u32)?;
+    Ok(next.is_none())
 }
 
 // The same after a stretch of block b. Where pairs are there and the block has an id left, it is not asked for: a failed step is then no refusal.
-fn kind_after(bytes: &[u8], column: Column, b: usize, part: Stretch) -> u64
+fn ended_after(bytes: &[u8], column: Column, b: usize, part: Stretch) -> Result<bool, Refusal>
     requires { (head_ok (column_of column).head ≡ true) × (length_ok bytes.now (column_of column) ≡ true) × (b ≤ max_block)
         × (part.place ≤ block_places) × (part.left ≡ true → is_none (next_steps bytes.now (column_of column) (b * block_places + part.place)) ≡ false) }
-    ensures { KindIs result part.count (next_steps bytes.now (column_of column) (b * block_places + part.place)) }
+    ensures { EndIs result part.count (next_steps bytes.now (column_of column) (b * block_places + part.place)) }
 {
-    if part.left {
-        if 0 < part.count {
-            return 0;
-        }
+    if part.left && 0 < part.count {
+        return Ok(false);
     }
-    kind_at(bytes, column, b, part.place)
+    ended_at(bytes, column, b, part.place)
 }
 
-// How many pairs the lists hold, and what comes next.
-#[derive(Clone, Copy)]
+// How many pairs the lists hold, and whether no id is left; a failed step is a refusal.
+#[derive(Clone, Copy, Debug, PartialEq, Eq)]
 struct Stop {
     count: usize,
-    kind: u64,
+    ended: Result<bool, Refusal>,
 }
 
 // All pairs from the target on, as many as there is room for.
@@ -133,44 +128,48 @@ fn fill(
     let mut b = q.block;
     let mut r = q.place;
     let mut i: usize = 0;
-    while b < BLOCKS {
+    while b < next::BLOCKS {
         let part = block_from(ids, values, bytes, column, q, room, i, b, r);
         if part.broken {
             return Stop {
                 count: part.count,
-                kind: 2,
+                ended: Err(Refusal::Broken),
             };
         }
         if part.count == room {
             return Stop {
                 count: room,
-                kind: kind_after(bytes, column, b, part),
+                ended: ended_after(bytes, column, b, part),
             };
         }
         i = part.count;
         b = next::next_block(&bytes[start..end], q, b + 1);
         r = 0;
     }
-    Stop { count: i, kind: 1 }
+    Stop {
+        count: i,
+        ended: Ok(true),
+    }
 }
 
 // ---- the answer
 
-// A failed step is a refusal where no pair comes before it.
-fn told(stop: Stop) -> Readout
-    ensures { Told stop result }
+// A failed step refuses the call where no pair comes before it.
+fn told(stop: Stop) -> Result<Readout, Refusal>
+    ensures { Told stop.ended stop.count result }
 {
     let count = numbers::long(stop.count);
-    if stop.kind == 1 {
-        return Readout::Ended(count);
+    match stop.ended {
+        Ok(true) => Ok(Readout::Ended(count)),
+        Ok(false) => Ok(Readout::More(count)),
+        Err(why) => {
+            if count == 0 {
+                Err(why)
+            } else {
+                Ok(Readout::More(count))
+            }
+        }
     }
-    if stop.kind == 0 {
-        return Readout::More(count);
-    }
-    if count == 0 {
-        return Readout::Refused(Refusal::Broken);
-    }
-    Readout::More(count)
 }
 
 // On a column that keeps the header rules and fits these bytes, with room for so many pairs.
@@ -181,13 +180,12 @@ pub fn read_up_to(
     column: Column,
     room: usize,
     target: u32,
-) -> Readout
+) -> Result<Readout, Refusal>
     requires { (Roomy bytes.now (column_of column) room ids.old values.old) × (target ≤ max_id) }
     ensures { Leaves (read_steps bytes.now (column_of column) target room) result ids.old ids.new values.old
         values.new }
 {
-    let stop = fill(ids, values, bytes, column, room, target);
-    told(stop)
+    told(fill(ids, values, bytes, column, room, target))
 }
 
 // With room for as many as both lists take.
@@ -197,12 +195,12 @@ fn read_steps(
     bytes: &[u8],
     column: Column,
     target: u32,
-) -> Readout
+) -> Result<Readout, Refusal>
     requires { (head_ok (column_of column).head ≡ true) × (length_ok bytes.now (column_of column) ≡ true) × (target ≤ max_id) }
     ensures { Leaves (read_steps bytes.now (column_of column) target (min (length ids.old) (length values.old))) result
         ids.old ids.new values.old values.new }
 {
-    let room = lookup::smaller(ids.len(), values.len());
+    let room = ids.len().min(values.len());
     read_up_to(ids, values, bytes, column, room, target)
 }
 
@@ -215,33 +213,35 @@ pub fn read_from_in(
     from: u32,
     ids: &mut [u32],
     values: &mut [i64],
-) -> Readout
+) -> Result<Readout, Refusal>
     ensures { Leaves (read_from_in bytes.now (column_of column) from (min (length ids.old) (length values.old))) result
         ids.old ids.new values.old values.new }
 {
     if !column::id_ok(from) {
-        return Readout::Refused(Refusal::Id);
+        return Err(Refusal::Id);
     }
     if !column::head_ok(column.head) {
-        return Readout::Refused(Refusal::Header);
+        return Err(Refusal::Header);
     }
     if !column::length_ok(bytes, column) {
-        return Readout::Refused(Refusal::Length);
+        return Err(Refusal::Length);
     }
     read_steps(ids, values, bytes, column, from)
 }
 
 // 14, then 7 to 11, then 15.
-pub fn read_from(bytes: &[u8], from: u32, ids: &mut [u32], values: &mut [i64]) -> Readout
+pub fn read_from(
+    bytes: &[u8],
+    from: u32,
+    ids: &mut [u32],
+    values: &mut [i64],
+) -> Result<Readout, Refusal>
     ensures { Leaves (read_from editions bytes.now from (min (length ids.old) (length values.old))) result
         ids.old ids.new values.old values.new }
 {
     if !column::id_ok(from) {
-        return Readout::Refused(Refusal::Id);
+        return Err(Refusal::Id);
     }
-    let opened = Column::open(bytes);
-    match opened {
-        Opening::Refused(why) => Readout::Refused(why),
-        Opening::Open(column) => read_steps(ids, values, bytes, column, from),
-    }
+    let column = Column::open(bytes)?;
+    read_steps(ids, values, bytes, column, from)
 }

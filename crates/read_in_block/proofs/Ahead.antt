@@ -1,10 +1,9 @@
 -- Long after long, as far as ids follow each other. Assumes nothing.
-use Rattle.format.specs.Kit.{◌≡◌, refl, sym, ap, ◌∙◌, List, ℕ, zero, suc, ◌+◌, ◌-◌, ◌*◌, ◌/◌, ◌^◌, ◌≤◌, ◌<◌, arith, ones_in, zero-add, add-zero}
+use Rattle.format.specs.Kit.{◌≡◌, refl, sym, ◌∙◌, List, ℕ, zero, suc, ◌+◌, ◌-◌, ◌*◌, ◌/◌, ◌≤◌, ◌<◌, arith, ones_in, zero-add, add-zero}
 use Rattle.format.specs.Limits.{Power}
 use Rattle.format.specs.Ids.{rank_bytes}
 use Rattle.read_in_block.specs.Rows.{bits_at, ones_ahead, place_after}
 use Rattle.read_in_block.specs.Stretch.{InLong, InLongs, LongsTo}
-use Rattle.read_in_block.specs.declared.dense.Longs as Lo
 
 pub place_most : (n k r : ℕ) → k + n ≤ 1024 → r < 65536 → place_after n k r ≤ 65536
 place_most zero k r h l = omega (arith, l)

@@ -1,5 +1,5 @@
 -- The first bits of a long's rest are ids in a row. Assumes nothing.
-use Rattle.format.specs.Kit.{◌≡◌, refl, sym, ap, ◌∙◌, List, [], ◌∷◌, ℕ, zero, suc, ◌+◌, ◌-◌, ◌*◌, ◌/◌, ◌%◌, ◌^◌, ◌≤◌, ◌<◌, arith, ones_in, count_trailing_zeros, ℤ}
+use Rattle.format.specs.Kit.{◌≡◌, refl, sym, ap, ◌∙◌, List, [], ◌∷◌, ℕ, zero, suc, ◌+◌, ◌-◌, ◌*◌, ◌/◌, ◌^◌, ◌≤◌, ◌<◌, arith, ones_in, count_trailing_zeros, ℤ}
 use Rattle.format.specs.Kit.{length, take, sets}
 use Rattle.format.specs.Limits.{Power}
 use Rattle.format.specs.Refusals.{refused, BROKEN}

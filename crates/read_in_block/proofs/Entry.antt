@@ -1,5 +1,5 @@
 -- One entry of a sparse block by itself: its pair, or a step that fails. Assumes nothing.
-use Rattle.format.specs.Kit.{◌≡◌, refl, ap, ◌∙◌, List, none, some, ℕ, suc, ◌+◌, ◌-◌, ◌*◌, ◌≤◌, ◌<◌, arith, ℤ, set}
+use Rattle.format.specs.Kit.{◌≡◌, refl, ◌∙◌, List, none, some, ℕ, suc, ◌+◌, ◌*◌, ◌≤◌, ◌<◌, arith, ℤ, set}
 use Rattle.format.specs.Refusals.{refused, and_then, given, BROKEN}
 use Rattle.format.specs.Ids.{sparse, kind_of}
 use Rattle.format.specs.Opening.{Opened, id_part, value_of}

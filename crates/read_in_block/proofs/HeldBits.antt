@@ -1,5 +1,5 @@
 -- The bits of a long that are left, each in its place, and their ids. Assumes nothing.
-use Rattle.format.specs.Kit.{◌≡◌, refl, sym, ap, ap₂, ◌∙◌, List, ◌∷◌, ℕ, suc, ◌+◌, ◌-◌, ◌*◌, ◌/◌, ◌^◌, ◌≤◌, ◌<◌, arith, count_trailing_zeros, zero-mul, mul-le-mul}
+use Rattle.format.specs.Kit.{◌≡◌, refl, sym, ap, ap₂, ◌∙◌, List, ◌∷◌, ℕ, suc, ◌+◌, ◌-◌, ◌*◌, ◌/◌, ◌^◌, ◌<◌, arith, count_trailing_zeros, zero-mul, mul-le-mul}
 use Rattle.format.specs.Kit.{pow_pos, pow_mono, shr_lt, shl_lt, lt_of_lt_of_le}
 use lib.Count.{trailing_of_zero}
 use Rattle.format.specs.Limits.{Power}

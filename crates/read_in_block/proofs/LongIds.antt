@@ -1,5 +1,5 @@
 -- The ids of longs that follow each other, and the first of those that are left. Assumes nothing.
-use Rattle.format.specs.Kit.{◌≡◌, refl, sym, ap, ap₂, ◌∙◌, List, [], ◌∷◌, ◌++◌, ℕ, zero, suc, ◌+◌, ◌-◌, ◌*◌, ◌/◌, ◌%◌, ◌^◌, ◌≤◌, ◌<◌, arith, ones_in}
+use Rattle.format.specs.Kit.{◌≡◌, refl, sym, ap, ap₂, ◌∙◌, List, [], ◌∷◌, ◌++◌, ℕ, zero, suc, ◌+◌, ◌-◌, ◌*◌, ◌/◌, ◌^◌, ◌≤◌, ◌<◌, arith, ones_in}
 use Rattle.format.specs.Kit.{count_trailing_zeros, length, take, length-append}
 use Rattle.format.specs.Limits.{Power}
 use Rattle.format.specs.Ids.{rank_bytes}

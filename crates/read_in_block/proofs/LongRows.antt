@@ -1,5 +1,5 @@
 -- Longs that follow each other are ids in a row, and what comes after them. Assumes nothing.
-use Rattle.format.specs.Kit.{◌≡◌, refl, sym, ap, ◌∙◌, List, [], ◌∷◌, ◌++◌, ℕ, zero, suc, ◌+◌, ◌-◌, ◌*◌, ◌/◌, ◌^◌, ◌≤◌, ◌<◌, min, arith, ones_in, count_trailing_zeros}
+use Rattle.format.specs.Kit.{◌≡◌, refl, sym, ap, ◌∙◌, List, [], ◌∷◌, ◌++◌, ℕ, zero, suc, ◌+◌, ◌-◌, ◌*◌, ◌/◌, ◌≤◌, ◌<◌, arith, ones_in, count_trailing_zeros}
 use Rattle.format.specs.Kit.{ℤ, length, take, length-take, take_all, sets}
 use Rattle.format.specs.Limits.{Power}
 use Rattle.format.specs.Refusals.{refused, BROKEN}

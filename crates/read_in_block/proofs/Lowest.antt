@@ -1,6 +1,6 @@
 -- A number's lowest set bit: in the number moved up, and taken away. Assumes nothing.
-use Rattle.format.specs.Kit.{◌≡◌, refl, sym, ap, ap₂, ◌∙◌, ℕ, zero, suc, ◌+◌, ◌-◌, ◌*◌, ◌/◌, ◌%◌, ◌^◌, ◌<◌, ◌≤◌, pow-succ', pow-zero, pow-add, mul_assoc}
-use Rattle.format.specs.Kit.{mul_comm, add-mul, mul-one, div-one, div-div-eq-div-mul, arith, count_trailing_zeros}
+use Rattle.format.specs.Kit.{◌≡◌, refl, sym, ap, ◌∙◌, ℕ, zero, suc, ◌+◌, ◌-◌, ◌*◌, ◌/◌, ◌%◌, ◌^◌, ◌<◌, ◌≤◌, pow-succ', pow-zero, pow-add, mul_assoc}
+use Rattle.format.specs.Kit.{mul_comm, add-mul, mul-one, div-div-eq-div-mul, arith, count_trailing_zeros}
 use Rattle.laws.proofs.SetBits.{odd_or}
 
 zeros_odd : (k w : ℕ) → w % 2 ≡ 1 → count_trailing_zeros (suc k) w ≡ 0

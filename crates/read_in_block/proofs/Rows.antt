@@ -1,5 +1,5 @@
 -- Pairs in a row: ids whose ordinals follow each other, and as many of their values as are there. Assumes nothing.
-use Rattle.format.specs.Kit.{◌≡◌, refl, sym, ap, ◌∙◌, subst, List, [], ◌∷◌, Option, none, some, ℕ, zero, suc, ◌+◌, ◌-◌, ◌*◌, ◌≤◌, ◌<◌, arith, ℤ, set, sets}
+use Rattle.format.specs.Kit.{◌≡◌, refl, ap, ◌∙◌, List, [], ◌∷◌, Option, none, some, ℕ, zero, suc, ◌+◌, ◌-◌, ◌*◌, ◌≤◌, ◌<◌, arith, ℤ, set, sets}
 use Rattle.format.specs.Kit.{length, take}
 use Rattle.format.specs.Refusals.{done, refused, and_then, given, BROKEN}
 use Rattle.format.specs.Opening.{Opened, id_part, value_of}

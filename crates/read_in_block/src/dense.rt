@@ -44,14 +44,12 @@ fn put_bits(ids: &mut [u32], b: usize, r: usize, rest: u64, from: usize, end: us
 {
     let mut bits = rest;
     let mut y = r;
-    let mut i = from;
-    while i < end {
+    for i in from..end {
         let z = next_in_block::zeros_below(bits);
         let id = next::id_of(b, y + z);
         ids[i] = id;
         bits = next_in_block::bits_above(bits, z);
         y = y + z + 1;
-        i += 1;
     }
     y
 }
@@ -77,7 +75,7 @@ fn in_long(
     ensures { LongTo bytes.now (column_of column) room b block from r inner ids.old values.old result ids.new
         values.new }
 {
-    let want = lookup::smaller(numbers::size(blocks::ones_of(rest)), room - from);
+    let want = numbers::size(blocks::ones_of(rest)).min(room - from);
     let count = numbers::long(block.count);
     if count <= inner {
         return Stretch {
@@ -87,7 +85,7 @@ fn in_long(
             left: false,
         };
     }
-    let end = from + lookup::smaller(want, numbers::size(count - inner));
+    let end = from + want.min(numbers::size(count - inner));
     let x = block.ordinal + inner;
     let n = crate::draw(values, bytes, column, x, from, end);
     let place = put_bits(ids, b, r, rest, from, n);
@@ -102,7 +100,7 @@ fn in_long(
 // ---- whole longs
 
 // Longs whose ids follow each other: how many ids, and the place after them.
-#[derive(Clone, Copy)]
+#[derive(Clone, Copy, Debug, PartialEq, Eq)]
 struct Longs {
     ones: usize,
     place: usize,
@@ -167,6 +165,7 @@ fn put_longs(
     let mut bits = bits_from(numbers::long_at(s, m + 8 * k), r % 64);
     let mut y = r;
     let mut i = from;
+    // No range: a turn goes on to the next id or to the next long.
     while i < end {
         if bits == 0 {
             k += 1;
@@ -184,7 +183,7 @@ fn put_longs(
 }
 
 // How many pairs the lists hold, the place that comes next, and whether a step failed there.
-#[derive(Clone, Copy)]
+#[derive(Clone, Copy, Debug, PartialEq, Eq)]
 struct Row {
     count: usize,
     place: usize,
@@ -232,7 +231,7 @@ fn in_longs(
     if count <= rank {
         return none_read(from, r);
     }
-    let most = lookup::smaller(room - from, numbers::size(count - rank));
+    let most = (room - from).min(numbers::size(count - rank));
     let longs = longs_from(s, t, p, r, rank, most);
     let end = from + longs.ones;
     let n = crate::draw(values, bytes, column, block.ordinal + rank, from, end);

@@ -17,11 +17,9 @@ fn count_up(ids: &mut [u32], from: usize, end: usize, id: u32)
     ensures { ids.new ≡ sets ids.old from (up_from id (end - from)) }
 {
     let mut y = id;
-    let mut i = from;
-    while i < end {
+    for i in from..end {
         ids[i] = y;
         y += 1;
-        i += 1;
     }
 }
 
@@ -42,7 +40,7 @@ pub fn pairs(
     ensures { StretchTo bytes.now (column_of column) room b from place ids.old values.old result ids.new
         values.new }
 {
-    let end = from + lookup::smaller(room - from, Block::PLACES - place);
+    let end = from + (room - from).min(Block::PLACES - place);
     let x = block.ordinal + numbers::long(place);
     let i = crate::draw(values, bytes, column, x, from, end);
     count_up(ids, from, i, next::id_of(b, place));

@@ -8,13 +8,10 @@ ghost use Rattle.format.specs.Limits.{block_places};
 ghost use Rattle.format.specs.Opening.{head_ok, length_ok, value_of};
 ghost use Rattle.format.specs.Drawn.{drawn};
 ghost use Rattle.column.specs.Opened.{column_of};
-ghost use Rattle.values.specs.Edition.{fetched_of};
 ghost use Rattle.read_in_block.specs.Stretch.{InBlock, Lent, StretchTo};
 
 use blocks::{Block, Kind};
 use column::Column;
-use scaled_values::Slotted;
-use values::Fetched;
 
 mod dense;
 mod full;
@@ -25,7 +22,7 @@ const FEW: usize = 6;
 
 // How many pairs the lists hold, the place of the block that comes next, and whether a step failed there. `left`: the block has an id from that place
 // on, whatever its value is; else nothing is known of what comes.
-#[derive(Clone, Copy)]
+#[derive(Clone, Copy, Debug, PartialEq, Eq)]
 pub struct Stretch {
     pub count: usize,
     pub place: usize,
@@ -53,21 +50,6 @@ pub fn draw(
     let edition = head.edition;
     let fields = head.fields;
     values::draw(values, section, edition, head.count, fields, x, from, end)
-}
-
-// The value of one ordinal (step 7).
-pub fn value_at(bytes: &[u8], column: Column, ordinal: u64) -> Fetched
-    requires { (head_ok (column_of column).head ≡ true) × (length_ok bytes.now (column_of column) ≡ true) × (ordinal < column.head.count) }
-    ensures { fetched_of result ≡ value_of bytes.now (column_of column) ordinal }
-{
-    let head = column.head;
-    let end = numbers::size(column.start) + numbers::size(head.id_bytes);
-    let section = &bytes[end..];
-    let edition = head.edition;
-    let fields = head.fields;
-    let slot: Slotted = values::slot_of(section, edition, head.count, fields, ordinal);
-    let stored = values::number_in(section, edition, slot);
-    values::value_of(section, edition, fields, slot, stored)
 }
 
 // From the place on.

@@ -11,7 +11,6 @@ ghost use Rattle.read_in_block.specs.Stretch.{InBlock, Lent, StretchTo};
 use crate::Stretch;
 use blocks::Block;
 use column::Column;
-use values::Fetched;
 
 // How far the entries at t rise, from entry j to `end`, the first of them from r on.
 fn rising(s: &[u8], t: usize, j: usize, end: usize, r: usize) -> usize
@@ -19,16 +18,14 @@ fn rising(s: &[u8], t: usize, j: usize, end: usize, r: usize) -> usize
     ensures { RisesTo s.now t r j end result }
 {
     let mut least = r;
-    let mut k = j;
-    while k < end {
+    for k in j..end {
         let e = numbers::size(numbers::short_at(s, t + 2 * k));
         if e < least {
             return k;
         }
         least = e + 1;
-        k += 1;
     }
-    k
+    end
 }
 
 // The ids of the entries from j on, into places `from` to `end`. Says the place after the last, or r where there is none.
@@ -47,15 +44,12 @@ fn put_entries(
         × (ids.new ≡ sets ids.old from (entries_from s.now t b j (end - from))) }
 {
     let mut y = r;
-    let mut k = j;
-    let mut i = from;
-    while i < end {
+    for i in from..end {
+        let k = j + (i - from);
         let e = numbers::size(numbers::short_at(s, t + 2 * k));
         let id = next::id_of(b, e);
         ids[i] = id;
         y = e + 1;
-        k += 1;
-        i += 1;
     }
     y
 }
@@ -83,13 +77,11 @@ pub fn one_by_one(
     let s = &bytes[start..after];
     let t = block.start;
     let count = block.count;
-    let mut j = 0;
     let mut i = from;
     let mut r = place;
-    while j < count {
+    for j in 0..count {
         let e = numbers::size(numbers::short_at(s, t + 2 * j));
         if e < r {
-            j += 1;
             continue;
         }
         if i == room {
@@ -100,8 +92,7 @@ pub fn one_by_one(
                 left: true,
             };
         }
-        let found = crate::value_at(bytes, column, block.ordinal + numbers::long(j));
-        let Fetched::Value(value) = found else {
+        let Some(value) = next::value_at(bytes, column, block.ordinal + numbers::long(j)) else {
             return Stretch {
                 count: i,
                 place: r,
@@ -113,7 +104,6 @@ pub fn one_by_one(
         ids[i] = id;
         values[i] = value;
         i += 1;
-        j += 1;
         r = e + 1;
     }
     Stretch {
@@ -152,6 +142,7 @@ pub fn pairs(
     let mut j = next_in_block::first_entry(s, t, count, place as u16);
     let mut i = from;
     let mut r = place;
+    // No range: a turn goes on by a run of entries.
     while j < count {
         if i == room {
             let e = numbers::size(numbers::short_at(s, t + 2 * j));
@@ -162,7 +153,7 @@ pub fn pairs(
                 left: r <= e,
             };
         }
-        let k = rising(s, t, j, j + lookup::smaller(count - j, room - i), r);
+        let k = rising(s, t, j, j + (count - j).min(room - i), r);
         if k == j {
             j += 1;
             continue;

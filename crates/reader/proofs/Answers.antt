@@ -6,15 +6,16 @@ use Rattle.format.specs.Editions.{editions}
 use Rattle.format.specs.Opening.{Opened, open_column}
 use Rattle.format.specs.Check.{accepted, reading, read_reply, ids_after, values_after}
 use Rattle.answers.specs.Replies.{reply_of}
-use Rattle.answers.specs.declared.Reply as Rp
 use Rattle.laws.proofs.Unique.{OnlyBy, accepted_only}
 use Rattle.checking.specs.Tests.{is_taken}
 use Rattle.reader.specs.Answered.{Answered, Whole}
 use Rattle.reader.proofs.Decoded.{Decoded}
+use Rattle.std.specs.declared.result.Result.{Result}
+use Rattle.answers.specs.declared.Refusal as Re
 
 -- ---- a refusal
 
-pub refused_so : (o : Outcome Pairs) (r : Rp.Reply) (why w : ℕ) (ids : List ℕ) (vs : List ℤ) → o ≡ refused why w → reply_of r ≡ refused why w
+pub refused_so : (o : Outcome Pairs) (r : Result ℕ Re.Refusal) (why w : ℕ) (ids : List ℕ) (vs : List ℤ) → o ≡ refused why w → reply_of r ≡ refused why w
     → Answered o r ids ids vs vs
 unfolding read_reply ids_after values_after
 refused_so o r why w ids vs e h = rw e (record { reply = h; in_ids = refl; in_values = refl })
@@ -39,7 +40,7 @@ whole bytes c o = go (accepted bytes c) refl
 
 -- ---- success
 
-pub done_so : (bytes : List ℕ) (c : Opened) (r : Rp.Reply) (ids ids' : List ℕ) (vs vs' : List ℤ) (w : Whole bytes c) → Decoded bytes c w.pairs
+pub done_so : (bytes : List ℕ) (c : Opened) (r : Result ℕ Re.Refusal) (ids ids' : List ℕ) (vs vs' : List ℤ) (w : Whole bytes c) → Decoded bytes c w.pairs
     → reply_of r ≡ done c.head.count
     → ids' ≡ ids_after (accepted bytes c) ids → vs' ≡ values_after (accepted bytes c) vs
     → Answered (accepted bytes c) r ids ids' vs vs'
@@ -71,6 +72,6 @@ module _ (bytes : List ℕ) (m n : ℕ) where
     unfolding reading and_then need
     enough h k = rw (e, le-leb c.head.count m h, le-leb c.head.count n k)
 
-pub answered_as : (o o' : Outcome Pairs) (r : Rp.Reply) (ids ids' : List ℕ) (vs vs' : List ℤ) → o' ≡ o → Answered o r ids ids' vs vs'
+pub answered_as : (o o' : Outcome Pairs) (r : Result ℕ Re.Refusal) (ids ids' : List ℕ) (vs vs' : List ℤ) → o' ≡ o → Answered o r ids ids' vs vs'
     → Answered o' r ids ids' vs vs'
 answered_as o o' r ids ids' vs vs' e t = subst (λ (x : Outcome Pairs). Answered x r ids ids' vs vs') (sym e) t

@@ -7,10 +7,11 @@ use Rattle.format.specs.Editions.{editions}
 use Rattle.format.specs.Opening.{Opened, open_column}
 use Rattle.format.specs.Check.{accepted, read_reply, ids_after, values_after}
 use Rattle.answers.specs.Replies.{reply_of}
-use Rattle.answers.specs.declared.Reply.{Reply}
+use Rattle.std.specs.declared.result.Result.{Result}
+use Rattle.answers.specs.declared.Refusal as Re
 
 -- buffers of ids and values before, and after
-pub record Answered (o : Outcome Pairs) (r : Reply) (ids ids' : List ℕ) (vs vs' : List ℤ) : Type 0 where
+pub record Answered (o : Outcome Pairs) (r : Result ℕ Re.Refusal) (ids ids' : List ℕ) (vs vs' : List ℤ) : Type 0 where
   pub reply : reply_of r ≡ read_reply o
   pub in_ids : ids' ≡ ids_after o ids
   pub in_values : vs' ≡ values_after o vs

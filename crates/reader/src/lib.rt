@@ -10,8 +10,8 @@ ghost use Rattle.answers.specs.Replies.{reply_of};
 ghost use Rattle.column.specs.Opened.{column_of};
 ghost use Rattle.reader.specs.Answered.{Answered, Whole};
 
-use answers::{Refusal, Reply};
-use column::{Column, Opening};
+use answers::Refusal;
+use column::Column;
 use numbers::size;
 
 // The ids of an accepted column, into a buffer that has room for them.
@@ -39,7 +39,7 @@ fn read_values(bytes: &[u8], c: Column, values: &mut [i64])
 }
 
 // An opened column: 12 if a buffer is too short, 13 if it is no column, and else its pairs.
-fn read_opened(bytes: &[u8], c: Column, ids: &mut [u32], values: &mut [i64]) -> Reply
+fn read_opened(bytes: &[u8], c: Column, ids: &mut [u32], values: &mut [i64]) -> Result<u64, Refusal>
     requires { open_column editions bytes.now ≡ done (column_of c) }
     ensures { Answered (reading editions bytes.now (length ids.old) (length values.old))
         result ids.old ids.new values.old values.new }
@@ -47,29 +47,26 @@ fn read_opened(bytes: &[u8], c: Column, ids: &mut [u32], values: &mut [i64]) -> 
     let h = c.head;
     let n = size(h.count);
     if ids.len() < n {
-        return Reply::Refused(Refusal::Buffer(h.count));
+        return Err(Refusal::Buffer(h.count));
     }
     if values.len() < n {
-        return Reply::Refused(Refusal::Buffer(h.count));
+        return Err(Refusal::Buffer(h.count));
     }
     if !checking::accepts(bytes, c) {
-        return Reply::Refused(Refusal::Damaged);
+        return Err(Refusal::Damaged);
     }
     read_ids(bytes, c, ids);
     read_values(bytes, c, values);
-    Reply::Done(h.count)
+    Ok(h.count)
 }
 
 // n for a column, whose pairs then are the first n places of both buffers; and else the first refusal, with both as they were.
-pub fn read(bytes: &[u8], ids: &mut [u32], values: &mut [i64]) -> Reply
+pub fn read(bytes: &[u8], ids: &mut [u32], values: &mut [i64]) -> Result<u64, Refusal>
     ensures reply { reply_of result ≡ read_reply (reading editions bytes.now (length ids.old) (length values.old)) }
     ensures in_ids { ids.new
         ≡ ids_after (reading editions bytes.now (length ids.old) (length values.old)) ids.old }
     ensures in_values { values.new
         ≡ values_after (reading editions bytes.now (length ids.old) (length values.old)) values.old }
 {
-    match Column::open(bytes) {
-        Opening::Refused(why) => Reply::Refused(why),
-        Opening::Open(c) => read_opened(bytes, c, ids, values),
-    }
+    read_opened(bytes, Column::open(bytes)?, ids, values)
 }

@@ -9,82 +9,63 @@ mod header;
 mod ids;
 mod values;
 
-use bytes::{minus, plus};
 use header::Fields;
 
-// The refusal's number, or 0, and the number with it; with 0 the column's byte count.
-#[derive(Clone, Copy)]
-pub struct Outcome {
-    pub number: u64,
-    pub with: u64,
+// The refusals of documents 01 and 02 that a writer of editions 1 and 2 gives, with the number that goes with them.
+#[derive(Clone, Copy, Debug, PartialEq, Eq)]
+pub enum Refusal {
+    Lengths,
+    Power,
+    Order(usize),
+    Range(usize),
+    Room(usize),
+    Edition,
 }
 
-const LAST_ID: u64 = 2147352575;
+const LAST_ID: u32 = 2147352575;
 
-fn refused(number: u64, with: u64) -> Outcome {
-    Outcome { number, with }
+// The first index whose id is not above the one before.
+fn out_of_order(ids: &[u32]) -> Option<usize> {
+    let at = ids.windows(2).position(|pair| pair[1] <= pair[0])?;
+    Some(at.wrapping_add(1))
 }
 
-// The first index whose id is not above the one before; n for none.
-fn out_of_order(ids: &[u32]) -> u64 {
-    let n = ids.len() as u64;
-    for i in 1..n {
-        if bytes::id(ids, i) <= bytes::id(ids, minus(i, 1)) {
-            return i;
-        }
+// Refusals 3 and 4.
+fn judged_ids(ids: &[u32]) -> Result<(), Refusal> {
+    if let Some(i) = out_of_order(ids) {
+        return Err(Refusal::Order(i));
     }
-    n
+    match ids.iter().position(|id| *id > LAST_ID) {
+        Some(i) => Err(Refusal::Range(i)),
+        None => Ok(()),
+    }
 }
 
-// The first index whose id is above its limit; n for none.
-fn out_of_range(ids: &[u32]) -> u64 {
-    let n = ids.len() as u64;
-    for i in 0..n {
-        if bytes::id(ids, i) > LAST_ID {
-            return i;
-        }
+// Refusals 9 and 2.
+fn edition_in(number: u64) -> Result<u32, Refusal> {
+    match number {
+        1 => Ok(1),
+        2 => Ok(2),
+        _ => Err(Refusal::Edition),
     }
-    n
 }
 
-// Refusals 3 and 4. (Of no pairs and of one, index 1 is past the end.)
-fn judged_ids(ids: &[u32]) -> Outcome {
-    let n = ids.len() as u64;
-    let order = out_of_order(ids);
-    if order < n {
-        return refused(3, order);
-    }
-    let range = out_of_range(ids);
-    if range < n {
-        return refused(4, range);
-    }
-    refused(0, 0)
-}
-
-// Refusals 1, 9 and 2 to 4.
-fn judged(ids: &[u32], values: &[u64], edition: u64, power: u64) -> Outcome {
-    if ids.len() != values.len() {
-        return refused(1, 0);
-    }
-    if edition < 1 || edition > 2 {
-        return refused(9, 0);
-    }
-    match power {
-        0 => judged_ids(ids),
-        7..=15 => judged_ids(ids),
-        _ => refused(2, 0),
+fn power_in(number: u64) -> Result<u32, Refusal> {
+    match u32::try_from(number) {
+        Ok(power) if matches!(power, 0 | 7..=15) => Ok(power),
+        _ => Err(Refusal::Power),
     }
 }
 
 // The bytes of the sections are what is put nowhere.
-fn fields_of(ids: &[u32], values: &[u64], edition: u64, power: u64) -> Fields {
+fn fields_of(ids: &[u32], values: &[i64], edition: u32, power: u32) -> Fields {
     let f = values::facts_of(values, edition);
     let jumps = ids::entries(ids::blocks(ids));
     Fields {
         edition,
-        count: ids.len() as u64,
+        count: ids.len(),
         power,
-        id_bytes: plus(ids::section_bytes(ids, power), jumps << 3),
+        id_bytes: ids::section_bytes(ids, power).wrapping_add(jumps << 3),
         jumps,
         width: f.width,
         smallest: values::folded(f.smallest),
@@ -93,35 +74,47 @@ fn fields_of(ids: &[u32], values: &[u64], edition: u64, power: u64) -> Fields {
     }
 }
 
-fn bytes_of(f: Fields) -> u64 {
+fn bytes_of(f: Fields) -> usize {
     let header = header::put_header(&mut [0u8; 0], f);
-    plus(plus(header, f.id_bytes), f.value_bytes)
+    header.wrapping_add(f.id_bytes).wrapping_add(f.value_bytes)
 }
 
-fn put_column(out: &mut [u8], ids: &[u32], values: &[u64], f: Fields) {
+fn put_column(out: &mut [u8], ids: &[u32], values: &[i64], f: Fields) {
     let base = header::put_header(out, f);
-    let end = plus(base, f.id_bytes);
+    let end = base.wrapping_add(f.id_bytes);
+    let table = match f.jumps {
+        0 => None,
+        n => Some(end.wrapping_sub(n << 3)),
+    };
     let s = ids::Section {
         base,
-        table: minus(end, f.jumps << 3),
-        jumps: f.jumps,
+        table,
         power: f.power,
     };
     ids::put_section(out, s, ids);
     values::put_values(out, end, values, values::facts_of(values, f.edition));
 }
 
-// Writes the column to the front of out. No start needs a test: 32766 blocks of at most 9220 bytes end far below 2147483647 (document 02, [7]).
-pub fn write(ids: &[u32], values: &[u64], edition: u64, power: u64, out: &mut [u8]) -> Outcome {
-    let why = judged(ids, values, edition, power);
-    if why.number != 0 {
-        return why;
+// Writes the column to the front of out, and answers with its bytes. No start needs a test: 32766 blocks of at most 9220 bytes end far
+// below 2147483647 (document 02, [7]).
+pub fn write(
+    ids: &[u32],
+    values: &[i64],
+    edition: u64,
+    power: u64,
+    out: &mut [u8],
+) -> Result<usize, Refusal> {
+    if ids.len() != values.len() {
+        return Err(Refusal::Lengths);
     }
+    let edition = edition_in(edition)?;
+    let power = power_in(power)?;
+    judged_ids(ids)?;
     let f = fields_of(ids, values, edition, power);
     let needed = bytes_of(f);
-    if (out.len() as u64) < needed {
-        return refused(6, needed);
+    if out.len() < needed {
+        return Err(Refusal::Room(needed));
     }
     put_column(out, ids, values, f);
-    refused(0, needed)
+    Ok(needed)
 }

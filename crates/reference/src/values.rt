@@ -1,44 +1,31 @@
-// Values packed (document 01, "Value section"; document 02, [2] and [6]). A value v stands here as v + 2^63.
+// Values packed (document 01, "Value section"; document 02, [2] and [6]).
 use super::bytes;
-use super::bytes::{ZERO, minus, plus};
 
 // What values have in common: the smallest, the greatest, and the greatest common divisor of each one's difference to the first.
-#[derive(Clone, Copy)]
+#[derive(Clone, Copy, Debug, PartialEq, Eq)]
 struct Span {
-    smallest: u64,
-    greatest: u64,
+    smallest: i64,
+    greatest: i64,
     divisor: u64,
 }
 
 // What values are packed by.
-#[derive(Clone, Copy)]
+#[derive(Clone, Copy, Debug, PartialEq, Eq)]
 pub struct Facts {
-    edition: u64,
-    pub smallest: u64,
+    edition: u32,
+    pub smallest: i64,
     pub divisor: u64,
-    pub width: u64,
+    pub width: u32,
 }
 
-// The difference of two values, a whole number to 2^64 - 1.
-fn apart(a: u64, b: u64) -> u64 {
-    if a < b { b - a } else { a - b }
-}
-
-// The header number of a value: 2v for v >= 0, -2v-1 for v < 0.
-pub fn folded(v: u64) -> u64 {
-    if v < ZERO {
-        (ZERO - 1 - v) * 2 + 1
+// The header number of a value: 2v for v >= 0, -2v-1 for v < 0, which is 2(-v-1)+1.
+pub fn folded(v: i64) -> u64 {
+    let x = v.cast_unsigned();
+    if v < 0 {
+        (!x).wrapping_mul(2).wrapping_add(1)
     } else {
-        (v - ZERO) * 2
+        x.wrapping_mul(2)
     }
-}
-
-fn quotient(a: u64, b: u64) -> u64 {
-    if b == 0 { 0 } else { a / b }
-}
-
-fn rest(a: u64, b: u64) -> u64 {
-    if b == 0 { 0 } else { a % b }
 }
 
 // The greatest common divisor, by remainders.
@@ -53,53 +40,46 @@ fn common(a: u64, b: u64) -> u64 {
     x
 }
 
-fn with_value(s: Span, first: u64, v: u64) -> Span {
-    Span {
-        smallest: if v < s.smallest { v } else { s.smallest },
-        greatest: if v > s.greatest { v } else { s.greatest },
-        divisor: common(s.divisor, apart(first, v)),
-    }
-}
-
-fn span_of(values: &[u64]) -> Span {
-    let first = bytes::value(values, 0);
+// Of no values 0 is the smallest and the greatest.
+fn span_of(values: &[i64]) -> Span {
+    let first = values.first().copied().unwrap_or(0);
     let mut s = Span {
         smallest: first,
         greatest: first,
         divisor: 0,
     };
-    for i in 0..values.len() as u64 {
-        s = with_value(s, first, bytes::value(values, i));
+    for value in values {
+        s = Span {
+            smallest: s.smallest.min(*value),
+            greatest: s.greatest.max(*value),
+            divisor: common(s.divisor, value.abs_diff(first)),
+        };
     }
     s
 }
 
 // The least width w with x < 2^w.
-fn width_of(x: u64) -> u64 {
-    minus(64, bytes::long(u64::leading_zeros(x)))
+fn width_of(x: u64) -> u32 {
+    64 - x.leading_zeros()
 }
 
 // In edition 2 the first of Lucene 9's widths from w on: 1, 2, each fourth to 32 and each eighth to 64.
-fn listed(edition: u64, w: u64) -> u64 {
+fn listed(edition: u32, w: u32) -> u32 {
     if edition != 2 {
         return w;
     }
     match w {
         0..=2 => w,
-        3..=32 => plus(w, 3) & 60,
-        _ => plus(w, 7) & 120,
+        3..=32 => w.wrapping_add(3) & 60,
+        _ => w.wrapping_add(7) & 120,
     }
 }
 
-fn or(a: u64, b: u64) -> u64 {
-    if a == 0 { b } else { a }
-}
-
-// The divisor is 1 if the values are equal, or there is none (which reads as 0).
-pub fn facts_of(values: &[u64], edition: u64) -> Facts {
+// The divisor is 1 if the values are equal, or there is none.
+pub fn facts_of(values: &[i64], edition: u32) -> Facts {
     let s = span_of(values);
-    let divisor = or(s.divisor, 1);
-    let width = width_of(quotient(minus(s.greatest, s.smallest), divisor));
+    let divisor = s.divisor.max(1);
+    let width = width_of(s.greatest.abs_diff(s.smallest) / divisor);
     Facts {
         edition,
         smallest: s.smallest,
@@ -108,38 +88,39 @@ pub fn facts_of(values: &[u64], edition: u64) -> Facts {
     }
 }
 
-// The number stored of value i.
-fn stored(values: &[u64], f: Facts, i: u64) -> u64 {
-    quotient(minus(bytes::value(values, i), f.smallest), f.divisor)
+// The number stored of a value.
+fn stored(value: i64, f: Facts) -> u64 {
+    value
+        .abs_diff(f.smallest)
+        .checked_div(f.divisor)
+        .unwrap_or(0)
 }
 
 // Bit k of so many, the first being the highest, or in edition 2 the lowest: how many are below it.
-fn below(edition: u64, bits: u64, k: u64) -> u64 {
+fn below(edition: u32, bits: u32, k: u32) -> u32 {
     if edition == 2 {
         k
     } else {
-        minus(minus(bits, 1), k)
+        bits.wrapping_sub(1).wrapping_sub(k)
     }
 }
 
-// Bit j of the packed numbers, in byte j div 8: a bit of number j div w. The bits of a number and those of a byte come in the same order.
-fn put_value_bit(out: &mut [u8], base: u64, values: &[u64], f: Facts, j: u64) {
-    let number = stored(values, f, quotient(j, f.width));
-    let one = bytes::bit(number, below(f.edition, f.width, rest(j, f.width)));
-    bytes::put_bit(
-        out,
-        plus(base, j / 8),
-        j % 8 == 0,
-        below(f.edition, 8, j % 8),
-        one,
-    );
+// Puts a number's bits from bit `from` on, bit j in byte j div 8. The bits of a number and those of a byte come in the same order.
+fn put_bits(out: &mut [u8], base: usize, f: Facts, from: usize, number: u64) {
+    for k in 0..f.width {
+        let j = from.wrapping_add(k as usize);
+        let one = bytes::bit(number, below(f.edition, f.width, k));
+        let weight = below(f.edition, 8, (j % 8) as u32);
+        bytes::put_bit(out, base.wrapping_add(j / 8), j % 8 == 0, weight, one);
+    }
 }
 
 // Puts the packed numbers, and answers with their bytes.
-pub fn put_values(out: &mut [u8], base: u64, values: &[u64], f: Facts) -> u64 {
-    let bits = bytes::times(values.len() as u64, f.width);
-    for j in 0..bits {
-        put_value_bit(out, base, values, f, j);
+pub fn put_values(out: &mut [u8], base: usize, values: &[i64], f: Facts) -> usize {
+    let mut bits = 0usize;
+    for value in values {
+        put_bits(out, base, f, bits, stored(*value, f));
+        bits = bits.wrapping_add(f.width as usize);
     }
-    plus(bits, 7) / 8
+    bits.div_ceil(8)
 }

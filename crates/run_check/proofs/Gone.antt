@@ -1,18 +1,9 @@
 -- The loop over the runs: one that fails, one more, and none left. Assumes nothing.
-use Rattle.format.specs.Kit.{◌≡◌, subst, Bool, true, false, ◌&&◌, List, ℕ, suc, ◌+◌, ◌-◌, ◌*◌, ◌≤◌, ◌<◌, min, add-one, arith, eqb, length}
+use Rattle.format.specs.Kit.{◌≡◌, true, false, ◌&&◌, List, ℕ, suc, ◌+◌, ◌-◌, ◌*◌, ◌≤◌, ◌<◌, min, add-one, arith, eqb, length}
 use Rattle.format.specs.Bits.{packed_bytes}
 use Rattle.format.specs.Values.{over, gcd, gcd_from}
 use Rattle.format.specs.ValueRuns.{run_length, Summary, summary_at}
 use Rattle.run_check.specs.RunsOk.{numbers_at, run_ok, divisor_ok, runs_ok}
-use Rattle.run_check.specs.Tested.{TestedAs}
-use Rattle.run_check.specs.declared.Tested as Te
-
--- what the test of a run handed on
-pub was_bad : (ok : Bool) (d : ℕ) (t : Te.Tested) → TestedAs ok d t → t ≡ Te.Tested.Bad → ok ≡ false
-was_bad ok d t h e = subst (TestedAs ok d) e h
-
-pub was_good : (ok : Bool) (d : ℕ) (t : Te.Tested) (v : ℕ) → TestedAs ok d t → t ≡ Te.Tested.Good v → (ok ≡ true) × (v ≡ d)
-was_good ok d t v h e = subst (TestedAs ok d) e h
 
 module _ (g : ℕ) (s rest : List ℕ) (n c r at a d : ℕ) where
   abbrev x : Summary

@@ -3,7 +3,7 @@ use Rattle.format.specs.Kit.{◌≡◌, refl, sym, ap, ap₂, ◌∙◌, subst, 
 use Rattle.format.specs.Kit.{eqb, length, get_or, drop, length-take-le, length-drop, drop-drop, drop-length, take-append-drop, eqb-true, ℤ}
 use Rattle.format.specs.Bytes.{bytes_of}
 use Rattle.format.specs.Bits.{packed_bytes, unpacked}
-use Rattle.format.specs.Values.{smallest, over, gcd, gcd_from, stored_with, value_at}
+use Rattle.format.specs.Values.{over, gcd, gcd_from, stored_with, value_at}
 use Rattle.format.specs.Pairs.{Below, Each, Fits}
 use Rattle.format.specs.ValueRuns.{run_length, run_count, Summary, summary_at, summary_of, summaries, run_bytes}
 use Rattle.laws.proofs.Tests.{both_true}

@@ -1,10 +1,10 @@
 -- The loop over a run's stored numbers: one more, and none left; and numbers of no bits. Assumes nothing.
-use Rattle.format.specs.Kit.{◌≡◌, refl, sym, ap, ap₂, ◌∙◌, List, [], ◌∷◌, ℕ, ◌+◌, ◌*◌, ◌/◌, ◌%◌, ◌^◌, ◌<◌, ◌≤◌, min, max, zero-le, zero-mul, add-one, arith}
+use Rattle.format.specs.Kit.{◌≡◌, refl, sym, ap, ap₂, ◌∙◌, List, [], ◌∷◌, ℕ, ◌+◌, ◌*◌, ◌/◌, ◌%◌, ◌^◌, ◌<◌, ◌≤◌, min, max, add-one, arith}
 use Rattle.format.specs.Kit.{bit_and, and_mask, length, drop, drop-cons, drop_of_length-le}
 use Rattle.format.specs.Bits.{fetched, unpacked}
 use Rattle.format.specs.Values.{gcd, gcd_from}
 use Rattle.format.specs.Pairs.{Below}
-use Rattle.laws.proofs.Bits.{fetched_is, within, unpacked_below, length_unpacked}
+use Rattle.laws.proofs.Bits.{fetched_is, unpacked_below, length_unpacked}
 use Rattle.laws.proofs.Gcd.{gcd_zero}
 use Rattle.packing.proofs.Join.{place_next}
 use Rattle.scaling.specs.Numbers.{least_from, most_from}
@@ -49,15 +49,9 @@ pub record Turn (w n : ℕ) (s : List ℕ) (d lo hi g m i at skip : ℕ) : Type 
   pub place : at * 8 + skip ≡ i * w
   pub few : skip < 8
 
-pub first : (w n : ℕ) (s : List ℕ) (d m : ℕ) → Reciprocal d m → Turn w n s d largest 0 d m 0 0 0
-first w n s d m r = record { inside = zero-le; least = refl; most = refl; common = refl; quick = r; place = sym (zero-mul w); few = omega arith }
-
 module _ {w n : ℕ} {s : List ℕ} {d lo hi g m i at skip : ℕ} (t : Turn w n s d lo hi g m i at skip) where
   abbrev xs : List ℕ
   xs = unpacked w n s
-
-  pub room : n * w ≤ 8 * length s → i < n → at * 8 + skip + w ≤ 8 * length s
-  room h k = omega (arith, within i w n k, t.place)
 
   one_more : i < n → drop i xs ≡ fetched s w i ∷ drop (i + 1) xs
   one_more k =

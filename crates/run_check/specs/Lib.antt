@@ -1,3 +1,2 @@
 -- The tests of a value section of edition 3.
 pub mod RunsOk
-pub mod Tested

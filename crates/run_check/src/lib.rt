@@ -1,7 +1,7 @@
 // The check of a value section of edition 3 (document 02, [11]) that keeps the header rules: run by run, each by its own bytes.
 #![tactic(auto)]
 
-ghost use Rattle.std.specs.Prelude.{◌≡◌, true, ◌||◌, ℕ, ◌+◌, ◌-◌, ◌*◌, ◌^◌, ◌≤◌, ◌<◌, eqb, leb, length, drop};
+ghost use Rattle.std.specs.Prelude.{◌≡◌, true, false, ◌||◌, ℕ, ◌+◌, ◌-◌, ◌*◌, ◌^◌, ◌≤◌, ◌<◌, eqb, leb, length, drop, MatchOption};
 ghost use Rattle.format.specs.Limits.{max_count, max_width};
 ghost use Rattle.format.specs.Bits.{unpacked};
 ghost use Rattle.format.specs.Values.{over, gcd_from};
@@ -12,7 +12,6 @@ ghost use Rattle.signed.specs.Sign.{unbiased};
 ghost use Rattle.scaling.specs.Numbers.{least_from, most_from};
 ghost use Rattle.run_values.specs.Summaries.{summary_is};
 ghost use Rattle.run_check.specs.RunsOk.{numbers_at, range_ok, largest, run_ok, divisor_ok, runs_ok, values_ok};
-ghost use Rattle.run_check.specs.Tested.{TestedAs};
 
 use answers::Fields;
 use packings::Order;
@@ -38,20 +37,18 @@ fn range_of(s: &[u8], n: usize, w: usize, d: u64) -> Range
     let mut hi: u64 = 0;
     let mut g = d;
     let mut m = scaling::reciprocal(d);
-    let mut i: usize = 0;
     let mut at: usize = 0;
     let mut skip: usize = 0;
-    while i < n {
+    for i in 0..n {
         let x = packings::next_of(s, Order::High, w, i, n, at, skip);
         let next = skip + w;
         at += next >> 3;
         skip = next & 7;
-        lo = scaling::smaller(lo, x);
-        hi = scaling::larger(hi, x);
+        lo = lo.min(x);
+        hi = hi.max(x);
         let h = scaling::common(g, m, x);
         m = scaling::renewed(m, g, h);
         g = h;
-        i += 1;
     }
     Range { lo, hi, common: g }
 }
@@ -96,39 +93,34 @@ fn range_ok(x: Summary, g: u64, lo: u64, hi: u64) -> bool
     top_ok(x.smallest, x.greatest, g, hi)
 }
 
-// A run that passed, with the common divisor of its numbers and those before; or one that did not.
-#[derive(Clone, Copy)]
-enum Tested {
-    Good(u64),
-    Bad,
-}
-
-// The run of n values that starts at a byte of those after the directory; d is the common divisor of the numbers before.
-fn run_ok(rest: &[u8], at: usize, n: usize, g: u64, x: Summary, d: u64) -> Tested
+// The run of n values that starts at a byte of those after the directory; d is the common divisor of the numbers before. The common divisor of
+// its numbers too, if the run passes.
+fn run_ok(rest: &[u8], at: usize, n: usize, g: u64, x: Summary, d: u64) -> Option<u64>
     requires { (at ≤ length rest.now) × (0 < g) × (0 < n) × (n ≤ run_length) }
-    ensures { TestedAs (run_ok g rest.now at n (summary_is x)) (gcd_from d (numbers_at rest.now at n x.width)) result }
+    ensures { MatchOption result (run_ok g rest.now at n (summary_is x) ≡ false)
+        (λ c. (run_ok g rest.now at n (summary_is x) ≡ true) × (c ≡ gcd_from d (numbers_at rest.now at n x.width))) }
 {
     if x.start != at as u64 {
-        return Tested::Bad;
+        return None;
     }
     if x.width > limits::MAX_WIDTH {
-        return Tested::Bad;
+        return None;
     }
     let w = x.width as usize;
     let bytes = packing::packed_bytes(n as u64, x.width) as usize;
     if rest.len() - at < bytes {
-        return Tested::Bad;
+        return None;
     }
     let end = at + bytes;
     let part = &rest[at..end];
     if !packings::spare_ok(part, Order::High, 8 * bytes - n * w) {
-        return Tested::Bad;
+        return None;
     }
     let range = range_of(part, n, w, d);
     if !range_ok(x, g, range.lo, range.hi) {
-        return Tested::Bad;
+        return None;
     }
-    Tested::Good(range.common)
+    Some(range.common)
 }
 
 // ---- all runs
@@ -137,7 +129,7 @@ fn run_ok(rest: &[u8], at: usize, n: usize, g: u64, x: Summary, d: u64) -> Teste
 fn distance(a: u64, b: u64) -> u64
     ensures { result ≡ over (unbiased a) (unbiased b) }
 {
-    if a < b { b - a } else { a - b }
+    a.abs_diff(b)
 }
 
 // Whether g is the divisor of all differences.
@@ -164,21 +156,19 @@ fn runs_ok(section: &[u8], rest: &[u8], n: u64, g: u64) -> bool
     ensures { result ≡ runs_ok g section.now rest.now n (run_count n) 0 0 0 0 }
 {
     let runs = run_values::run_count(n);
-    let mut r: u64 = 0;
     let mut at: usize = 0;
     let mut apart: u64 = 0;
     let mut d: u64 = 0;
-    while r < runs {
+    for r in 0..runs {
         let x = run_values::summary_at(section, r as usize);
         let count = run_values::count_in(n, r);
-        let Tested::Good(common) = run_ok(rest, at, count as usize, g, x, d) else {
+        let Some(common) = run_ok(rest, at, count as usize, g, x, d) else {
             return false;
         };
         let base = run_values::summary_at(section, 0);
         apart = scaling::gcd(apart, distance(base.smallest, x.smallest));
         at += packing::packed_bytes(count, x.width) as usize;
         d = common;
-        r += 1;
     }
     if at != rest.len() {
         return false;

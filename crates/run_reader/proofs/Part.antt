@@ -1,6 +1,6 @@
 -- A run whose numbers are all within the section is a packed section of its own, as edition 1's is; and a buffer that is filled run by run. Assumes
 -- nothing.
-use Rattle.format.specs.Kit.{◌≡◌, sym, ap, ◌∙◌, true, cond, ◌||◌, List, ◌++◌, some, ℕ, suc, ◌+◌, ◌-◌, ◌*◌, ◌≤◌, ◌<◌, suc-mul, mul-le-mul_right, arith, leb}
+use Rattle.format.specs.Kit.{◌≡◌, sym, ap, ◌∙◌, true, cond, List, ◌++◌, some, ℕ, suc, ◌+◌, ◌-◌, ◌*◌, ◌≤◌, ◌<◌, suc-mul, mul-le-mul_right, arith}
 use Rattle.format.specs.Kit.{eqb, ℤ, length, take, drop, length-take-le, length-drop, drop-drop, take-append-drop, le-leb, eq-eqb, ne_eqb, put_mid}
 use Rattle.format.specs.Limits.{max_width}
 use Rattle.format.specs.HeaderNumbers.{zigzag, unzigzag}

@@ -1,5 +1,5 @@
 -- Values of ordinals that follow each other: the same by another rule, and what is left after some of them. Assumes nothing.
-use Rattle.format.specs.Kit.{◌≡◌, refl, sym, ap, ap₂, ◌∙◌, List, [], ◌∷◌, ◌++◌, Option, none, some, ℕ, zero, suc, ◌+◌, ◌-◌, ◌≤◌, ◌<◌, arith, ℤ, length}
+use Rattle.format.specs.Kit.{◌≡◌, refl, sym, ap, ap₂, ◌∙◌, List, ◌∷◌, ◌++◌, Option, none, some, ℕ, zero, suc, ◌+◌, ◌-◌, ◌≤◌, ◌<◌, arith, ℤ, length}
 use Rattle.format.specs.Drawn.{drawn_by, drawn}
 use Rattle.laws.proofs.Drawn.{drawn_some, drawn_none}
 

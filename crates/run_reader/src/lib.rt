@@ -16,7 +16,7 @@ ghost use Rattle.packings.specs.declared.Order as Od;
 ghost use Rattle.packings.specs.Packings.{packing_of};
 ghost use Rattle.run_values.specs.Summaries.{summary_is, reaches_in};
 
-use answers::{Fetched, Fields};
+use answers::Fields;
 use packings::Order;
 use run_values::Summary;
 
@@ -48,14 +48,11 @@ pub fn fill(values: &mut [i64], section: &[u8], n: usize, fields: Fields)
         → values.new ≡ vs ++ drop n values.old }
 {
     let from = run_values::directory_length(n as u64);
-    let mut r: u64 = 0;
-    let mut i: usize = 0;
-    while i < n {
+    for r in 0..run_values::run_count(n as u64) {
         let x = run_values::summary_at(section, r as usize);
+        let i = (run_values::RUN * r) as usize;
         let end = i + (run_values::count_in(n as u64, r) as usize);
         fill_run(&mut values[i..end], section, from, fields.divisor, x);
-        i = end;
-        r += 1;
     }
 }
 
@@ -81,23 +78,19 @@ fn draw_numbers(
 {
     let low = signed::biased_of(fields.smallest);
     let w = fields.width as usize;
-    let mut o = x;
     let mut at = packing::byte_of(x, w);
     let mut skip = packing::skip_of(x, w);
-    let mut i = from;
-    while i < end {
-        let stored = packings::next_of(section, Order::High, w, o, n, at, skip);
-        let Fetched::Value(value) = scaling::value_above(low, fields.divisor, stored) else {
+    for i in from..end {
+        let stored = packings::next_of(section, Order::High, w, x + (i - from), n, at, skip);
+        let Some(value) = scaling::value_above(low, fields.divisor, stored) else {
             return i;
         };
         values[i] = value;
-        o += 1;
-        i += 1;
         let next = skip + w;
         at += next >> 3;
         skip = next & 7;
     }
-    i
+    end
 }
 
 // The values of a run from number k on, into places `from` to `end`, up to the first that has none: of a run whose `count` numbers are all
@@ -159,8 +152,7 @@ pub fn draw(
     if !run_values::reaches(room, summary.start, summary.width as usize, count - 1) {
         return from;
     }
-    let most = scaling::smaller((count - k) as u64, (end - from) as u64);
-    let last = from + (most as usize);
+    let last = from + (count - k).min(end - from);
     draw_run(
         values,
         section,

@@ -13,17 +13,9 @@ ghost use Rattle.signed.specs.Sign.{unbiased};
 ghost use Rattle.run_values.specs.Summaries.{summary_is};
 ghost use Rattle.run_search.specs.Sought.{found_or};
 
-use answers::{Fetched, Fields};
+use answers::{Fields, Refusal};
 use packings::Order;
 use run_values::{RUN, Summary};
-
-// An ordinal, none, or that step 7 failed on the way.
-#[derive(Clone, Copy)]
-pub enum Found {
-    At(u64),
-    Nothing,
-    Broken,
-}
 
 // Whether a value is in the range.
 fn within(low: u64, high: u64, v: i64) -> bool
@@ -56,7 +48,7 @@ fn scan_run(
     from: u64,
     low: u64,
     high: u64,
-) -> Found
+) -> Result<Option<u64>, Refusal>
     requires { ((codec runs).fields_ok n (fields_of fields) (length section.now) ≡ true) × (r < run_count n) × (summary_is x ≡ summary_at section.now r)
         × (from < run_length) }
     ensures { (more : Outcome (Option ℕ)) → found_or result more
@@ -66,25 +58,29 @@ fn scan_run(
     let start = run_values::directory_length(n);
     let first = RUN * r;
     let count = run_values::count_in(n, r);
-    let mut k = from;
-    while k < count {
+    for k in from..count {
         let slot = run_values::slot_in(section, start, x, k as usize);
         let stored = scaled_values::number_in(section, Order::High, slot);
-        let fetched = scaled_values::value_of(fields.divisor, slot, stored);
-        let Fetched::Value(v) = fetched else {
-            return Found::Broken;
+        let Some(v) = scaled_values::value_of(fields.divisor, slot, stored) else {
+            return Err(Refusal::Broken);
         };
         if within(low, high, v) {
-            let ordinal = first + k;
-            return Found::At(ordinal);
+            return Ok(Some(first + k));
         }
-        k += 1;
     }
-    Found::Nothing
+    Ok(None)
 }
 
 // The same, unless the run's summary shows that it holds none.
-fn in_run(section: &[u8], n: u64, fields: Fields, r: u64, from: u64, low: u64, high: u64) -> Found
+fn in_run(
+    section: &[u8],
+    n: u64,
+    fields: Fields,
+    r: u64,
+    from: u64,
+    low: u64,
+    high: u64,
+) -> Result<Option<u64>, Refusal>
     requires { ((codec runs).fields_ok n (fields_of fields) (length section.now) ≡ true) × (r < run_count n) × (from < run_length) }
     ensures { (more : Outcome (Option ℕ)) → found_or result more
         ≡ cond (skipped (unbiased low) (unbiased high) (summary_at section.now r)) more
@@ -93,41 +89,51 @@ fn in_run(section: &[u8], n: u64, fields: Fields, r: u64, from: u64, low: u64, h
 {
     let x = run_values::summary_at(section, r as usize);
     if passed_by(low, high, x) {
-        return Found::Nothing;
+        return Ok(None);
     }
     scan_run(section, n, fields, r, x, from, low, high)
 }
 
 // The runs in turn, from run `first` on.
-fn in_runs(section: &[u8], n: u64, fields: Fields, first: u64, low: u64, high: u64) -> Found
+fn in_runs(
+    section: &[u8],
+    n: u64,
+    fields: Fields,
+    first: u64,
+    low: u64,
+    high: u64,
+) -> Result<Option<u64>, Refusal>
     requires { ((codec runs).fields_ok n (fields_of fields) (length section.now) ≡ true) × (first ≤ run_count n) }
     ensures { found_or result (done none)
         ≡ runs_from ((codec runs).value n (fields_of fields) section.now) (summary_at section.now) (unbiased low) (unbiased high) n
         (run_count n - first) first }
 {
     let runs = run_values::run_count(n);
-    let mut r = first;
-    while r < runs {
-        let found = in_run(section, n, fields, r, 0, low, high);
-        let Found::Nothing = found else {
-            return found;
-        };
-        r += 1;
+    for r in first..runs {
+        if let Some(ordinal) = in_run(section, n, fields, r, 0, low, high)? {
+            return Ok(Some(ordinal));
+        }
     }
-    Found::Nothing
+    Ok(None)
 }
 
 // The first ordinal from `from` on: what is left of its run, and then the runs after it.
-pub fn first_from(section: &[u8], n: u64, fields: Fields, from: u64, low: u64, high: u64) -> Found
+pub fn first_from(
+    section: &[u8],
+    n: u64,
+    fields: Fields,
+    from: u64,
+    low: u64,
+    high: u64,
+) -> Result<Option<u64>, Refusal>
     requires { ((codec runs).fields_ok n (fields_of fields) (length section.now) ≡ true) × (from < n) }
     ensures { found_or result (done none)
         ≡ from_value ((codec runs).value n (fields_of fields) section.now) (summary_at section.now) (unbiased low) (unbiased high) n
         (from / run_length) (from % run_length) }
 {
     let r = from / RUN;
-    let found = in_run(section, n, fields, r, from % RUN, low, high);
-    let Found::Nothing = found else {
-        return found;
-    };
+    if let Some(ordinal) = in_run(section, n, fields, r, from % RUN, low, high)? {
+        return Ok(Some(ordinal));
+    }
     in_runs(section, n, fields, r + 1, low, high)
 }

@@ -5,15 +5,16 @@ use Rattle.format.specs.Limits.{max_width}
 use Rattle.format.specs.ValueRuns as Va
 use Rattle.signed.specs.Sign.{unbiased}
 use Rattle.packings.specs.declared.Order as Od
-use Rattle.scaled_values.specs.declared.slots.Slotted.{Slotted}
 use Rattle.scaled_values.specs.Slots.{Stands, slot_number, slot_value}
 use Rattle.run_values.specs.declared.Summary.{Summary}
+use Rattle.std.specs.declared.option.Option as Op
+use Rattle.scaled_values.specs.declared.slots.Slot.{Slot}
 
 abbrev pub summary_is : Summary → Va.Summary
 summary_is x = record { smallest = unbiased x.smallest; greatest = unbiased x.greatest; start = x.start; width = x.width }
 
 -- where a number stands: its bits are in the section, and its value is known by the divisor
-abbrev pub SlotIs : List ℕ → Slotted → (ℕ → Option ℤ) → Type 0
+abbrev pub SlotIs : List ℕ → Op.Option Slot → (ℕ → Option ℤ) → Type 0
 SlotIs s x v = (Stands Od.Order.High s x) × ((g : ℕ) → slot_value g x (slot_number Od.Order.High s x) ≡ v g)
 
 -- number k of w bits, from a start on, is within so many bytes; width 0 reaches nowhere

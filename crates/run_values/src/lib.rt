@@ -10,13 +10,13 @@ ghost use Rattle.answers.specs.Replies.{fields_of};
 ghost use Rattle.run_values.specs.Summaries.{summary_is, SlotIs, reaches_in};
 
 use answers::Fields;
-use scaled_values::{Slot, Slotted};
+use scaled_values::Slot;
 
 // The values of a run.
 pub const RUN: u64 = 16384;
 
 // What the directory says of a run; smallest and greatest value are biased, and the start is a byte after the directory.
-#[derive(Clone, Copy)]
+#[derive(Clone, Copy, Debug, PartialEq, Eq)]
 pub struct Summary {
     pub smallest: u64,
     pub greatest: u64,
@@ -37,7 +37,7 @@ pub fn count_in(n: u64, r: u64) -> u64
     ensures { result ≡ min run_length (n - run_length * r) }
 {
     let left = n - RUN * r;
-    if left < RUN { left } else { RUN }
+    left.min(RUN)
 }
 
 // The bytes of the directory.
@@ -64,13 +64,6 @@ pub fn rules(n: u64, fields: Fields, v: u64) -> bool
     25 * ((n + 16383) / RUN) <= v
 }
 
-// A byte as a number, and that it is small.
-fn wide(x: u8) -> u64
-    ensures { (result ≡ x) × (result < 256) }
-{
-    x as u64
-}
-
 // The summary of run r.
 pub fn summary_at(section: &[u8], r: usize) -> Summary
     requires { 25 * r + 25 ≤ length section.now }
@@ -80,7 +73,7 @@ pub fn summary_at(section: &[u8], r: usize) -> Summary
     let smallest = signed::turned(numbers::long_at(section, at));
     let greatest = signed::turned(numbers::long_at(section, at + 8));
     let start = numbers::long_at(section, at + 16);
-    let width = wide(section[at + 24]);
+    let width = u64::from(section[at + 24]);
     Summary {
         smallest,
         greatest,
@@ -122,15 +115,15 @@ pub fn fetched_from(from: usize, start: u64, w: usize) -> usize
 }
 
 // Step 7 in a run: where its number k stands; the directory ends at `from`.
-pub fn slot_in(section: &[u8], from: usize, x: Summary, k: usize) -> Slotted
+pub fn slot_in(section: &[u8], from: usize, x: Summary, k: usize) -> Option<Slot>
     requires { (from ≤ length section.now) × (k < run_length) }
     ensures { SlotIs section.now result (λ (g : ℕ). in_run g (drop from section.now) (summary_is x) k) }
 {
     let w = x.width as usize;
     if !reaches(section.len() - from, x.start, w, k) {
-        return Slotted::Outside;
+        return None;
     }
-    Slotted::At(Slot {
+    Some(Slot {
         start: fetched_from(from, x.start, w),
         width: w,
         index: k,
@@ -139,7 +132,7 @@ pub fn slot_in(section: &[u8], from: usize, x: Summary, k: usize) -> Slotted
 }
 
 // Step 7: where the number of ordinal i, of n, stands.
-pub fn slot_at(section: &[u8], n: u64, i: u64) -> Slotted
+pub fn slot_at(section: &[u8], n: u64, i: u64) -> Option<Slot>
     requires { (directory_length n ≤ length section.now) × (i < n) }
     ensures { SlotIs section.now result
         (λ (g : ℕ). in_run g (drop (directory_length n) section.now) (summary_at section.now (i / run_length)) (i % run_length)) }

@@ -49,13 +49,11 @@ pub fn length(values: &[i64], fields: Fields) -> u64
     let n = values.len() as u64;
     let count = run_count(n);
     let mut sum = directory_length(n) as u64;
-    let mut r: u64 = 0;
-    while r < count {
+    for r in 0..count {
         let i = (RUN * r) as usize;
         let j = i + (count_in(n, r) as usize);
         let x = summary_of(&values[i..j], fields.divisor, 0);
         sum += packing::packed_bytes((j - i) as u64, x.width);
-        r += 1;
     }
     sum
 }
@@ -107,11 +105,9 @@ pub fn put(out: &mut [u8], values: &[i64], fields: Fields)
     let count = run_count(n);
     let from = directory_length(n);
     let mut start: usize = 0;
-    let mut r: u64 = 0;
-    while r < count {
+    for r in 0..count {
         let i = (RUN * r) as usize;
         let j = i + (count_in(n, r) as usize);
         start += put_run(out, &values[i..j], r as usize, from, start, fields.divisor);
-        r += 1;
     }
 }

@@ -1,14 +1,15 @@
 -- The loop over the stored numbers: one more, none left, and when the rest cannot change the answer: once 0, the top bit and the divisor 1
 -- were seen they stay, and no number of the width is greater than the one that is known to fit. Assumes nothing.
-use Rattle.format.specs.Kit.{◌≡◌, refl, sym, ap, ap₂, ◌∙◌, Bool, true, false, ◌&&◌, List, ◌∷◌, none, some, ℕ, suc, ◌+◌, ◌-◌, ◌*◌, ◌/◌, ◌%◌, ◌^◌, ◌<◌}
-use Rattle.format.specs.Kit.{◌≤◌, min, max, zero-le, pow-suc, zero-mul, add-one, arith, bit_and, and_mask, eqb, leb, ℤ, pow_pos, length, drop}
+use Rattle.std.specs.Prelude.{Some, None, is_some}
+use Rattle.std.specs.declared.option.Option as Op
+use Rattle.answers.specs.Replies.{fetched_of}
+use Rattle.format.specs.Kit.{◌≡◌, refl, sym, ap, ap₂, ◌∙◌, Bool, true, false, ◌&&◌, List, ◌∷◌, none, some, ℕ, suc, ◌+◌, ◌-◌, ◌*◌, ◌^◌, ◌<◌}
+use Rattle.format.specs.Kit.{◌≤◌, min, max, pow-suc, add-one, arith, eqb, leb, ℤ, pow_pos, length, drop}
 use Rattle.format.specs.Kit.{drop_of_length-le, drop-cons, eqb-true, eq-eqb, leb-true, le-leb}
 use Rattle.format.specs.HeaderNumbers.{unzigzag}
 use Rattle.format.specs.Values.{fits64, gcd, gcd_from, value_at}
 use Rattle.format.specs.Pairs.{Fits}
 use Rattle.format.specs.Codec.{Fields, signed64}
-use Rattle.laws.proofs.Bits.{within}
-use Rattle.packing.proofs.Join.{place_next}
 use Rattle.laws.proofs.Digits.{below_drop}
 use Rattle.laws.proofs.Fits.{unzigzag_fits}
 use Rattle.scaling.specs.Reciprocal.{Reciprocal}
@@ -20,7 +21,8 @@ use Rattle.scaled_values.proofs.Facts.{Rules}
 use Rattle.scaled_values.proofs.Held.{numbers_below, length_numbers, number_at_lem}
 use Rattle.laws.proofs.Gcd.{gcd_From_one}
 use Rattle.scaled_check.specs.ValuesOk.{range_ok, numbers_ok}
-use Rattle.scaled_check.specs.Numbered.{Known, ok_from}
+use Rattle.scaling.specs.declared.Range.{Range}
+use Rattle.scaled_check.specs.Numbered.{Known, ok_from, ranged}
 use Rattle.scaling.specs.Numbers.{least_from, most_from}
 use Rattle.scaling.proofs.Stored.{most_first, fits_below}
 use Rattle.scaling.proofs.Ranged.{most_below, least_le}
@@ -30,7 +32,7 @@ use Rattle.laws.proofs.Tests.{both_true, true_both}
 -- ---- whether a value fits, by what is fetched
 
 module _ (v : ℤ) where
-  pub kept_in : (z : ℤ) → signed64 v ≡ some z → true ≡ fits64 v
+  kept_in : (z : ℤ) → signed64 v ≡ some z → true ≡ fits64 v
   unfolding signed64
   kept_in z e = go (fits64 v) refl
     where
@@ -38,13 +40,17 @@ module _ (v : ℤ) where
       go true q = sym q
       go false q = let k = rw q at e in absurd (let y : ◌≡◌ {A = ℕ} 0 1 = cc in omega arith)
 
-  pub kept_out : signed64 v ≡ none → false ≡ fits64 v
+  kept_out : signed64 v ≡ none → false ≡ fits64 v
   unfolding signed64
   kept_out e = go (fits64 v) refl
     where
       go : (t : Bool) → fits64 v ≡ t → false ≡ fits64 v
       go false q = sym q
       go true q = let k = rw q at e in absurd (let y : ◌≡◌ {A = ℕ} 0 1 = cc in omega arith)
+
+  pub some_fits : (r : Op.Option ℤ) → fetched_of r ≡ signed64 v → is_some r ≡ fits64 v
+  some_fits (Some z) e = kept_in z (sym e)
+  some_fits None e = kept_out (sym e)
 
 -- ---- the loop
 
@@ -107,33 +113,21 @@ most_is w half z e =
 pub enough : {o : Order} {n : ℕ} {h : Fields} (s : List ℕ) → Rules o n h (length s) → n * h.width ≤ 8 * length s
 enough s f = omega (arith, f.bytes)
 
--- the numbers from i on, the first of which stands after the first skip bits of byte at, make of lo, hi and g the answer; m serves for
--- divisions by g
-pub record Turn (o : Order) (n : ℕ) (h : Fields) (s : List ℕ) (upto : ℕ) (answer : Bool) (lo hi g m i at skip : ℕ) : Type 0 where
-  pub inside : i ≤ upto
-  pub below : hi < 2 ^ h.width
-  pub same : ok_from o n h s i lo hi g ≡ answer
-  pub quick : Reciprocal g m
-  pub place : at * 8 + skip ≡ i * h.width
-  pub few : skip < 8
+-- the numbers from i on make of the range the answer; m serves for divisions by its divisor
+pub record Turn (o : Order) (n : ℕ) (h : Fields) (s : List ℕ) (answer : Bool) (r : Range) (m i : ℕ) : Type 0 where
+  pub below : r.hi < 2 ^ h.width
+  pub same : ranged o n h s i r ≡ answer
+  pub quick : Reciprocal r.common m
 
-module _ {o : Order} {n : ℕ} {h : Fields} {s : List ℕ} {upto : ℕ} {answer : Bool} {lo hi g m i at skip : ℕ}
-    (f : Rules o n h (length s)) (t : Turn o n h s upto answer lo hi g m i at skip) where
-  pub room : i < n → at * 8 + skip + h.width ≤ 8 * length s
-  room k = omega (arith, within i h.width n k, enough s f, t.place)
-
-  pub next : i < upto → upto ≤ n → {x lo2 hi2 g2 m2 : ℕ} → x ≡ (packing_of o).fetch s h.width i → lo2 ≡ min lo x → hi2 ≡ max hi x → g2 ≡ gcd g x
-      → Reciprocal g2 m2 → Turn o n h s upto answer lo2 hi2 g2 m2 (i + 1) (at + (skip + h.width) / 8) (bit_and (skip + h.width) 7)
-  next k b e el eh eg r =
-      let mask : bit_and (skip + h.width) 7 ≡ (skip + h.width) % 8 = and_mask (skip + h.width) 3 in
-      record {
-        inside = omega arith;
-        below = omega (arith, fetch_small o s h.width i, t.below);
-        same = sym (turn o n h s lo hi g i (omega arith) ∙ rw (el, eh, eg, e)) ∙ t.same;
-        quick = r;
-        place = rw mask (place_next i h.width at skip t.place);
-        few = omega arith;
-      }
+pub next : {o : Order} {n : ℕ} {h : Fields} {s : List ℕ} {answer : Bool} {r : Range} {m i : ℕ} → Turn o n h s answer r m i → i < n
+    → {x lo2 hi2 g2 m2 : ℕ} → x ≡ (packing_of o).fetch s h.width i → lo2 ≡ min r.lo x → hi2 ≡ max r.hi x → g2 ≡ gcd r.common x
+    → Reciprocal g2 m2 → Turn o n h s answer (record { lo = lo2; hi = hi2; common = g2 }) m2 (i + 1)
+next {o} {n} {h} {s} {answer} {r} {m} {i} t k e el eh eg q =
+    record {
+      below = omega (arith, fetch_small o s h.width i, t.below);
+      same = sym (turn o n h s r.lo r.hi r.common i k ∙ rw (el, eh, eg, e)) ∙ t.same;
+      quick = q;
+    }
 
 module _ {o : Order} {h : Fields} {sure : Bool} {top : ℕ} (p : Known o h sure top) (n : ℕ) (s : List ℕ) (lo hi g i : ℕ) where
   -- the rest cannot change the answer

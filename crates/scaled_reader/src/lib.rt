@@ -15,7 +15,7 @@ ghost use Rattle.packings.specs.declared.Order as Od;
 ghost use Rattle.packings.specs.Packings.{packing_of, cut};
 ghost use Rattle.scaled_reader.specs.Stored.{FourFit, four_of, AllFit, FilledTo, Eights};
 
-use answers::{Fetched, Fields};
+use answers::Fields;
 use packings::Order;
 
 // The value of a stored number, where it fits; `low` is the smallest value, biased.
@@ -58,7 +58,7 @@ fn put_four(values: &mut [i64], order: Order, i: usize, x: u64, w: usize, low: u
 // The first of the values, four from one window, up to the last 64; none for a width that no four of fit a window. Says how many.
 fn fill_fours(values: &mut [i64], section: &[u8], order: Order, n: usize, fields: Fields) -> usize
     requires { ((scaled (packing_of order)).fields_ok n (fields_of fields) (length section.now) ≡ true) × (n ≤ length values.old)
-        × (AllFit order n (fields_of fields) section.now) }
+        × (AllFit order n (fields_of fields) section.now) × (n ≤ max_count) }
     ensures { (result ≤ n) × FilledTo order n (fields_of fields) section.now values.old values.new result }
 {
     let low = signed::biased_of(fields.smallest);
@@ -70,15 +70,12 @@ fn fill_fours(values: &mut [i64], section: &[u8], order: Order, n: usize, fields
         return 0;
     }
     let mut i: usize = 0;
-    let mut at: usize = 0;
-    let mut skip: usize = 0;
+    // A `step_by` would be no plainer: the place after the last four is what is handed back.
     while 64 <= n - i {
-        let x = packings::window(section, order, at, skip);
+        let bit = i * w;
+        let x = packings::window(section, order, bit >> 3, bit & 7);
         put_four(values, order, i, x, w, low, fields.divisor);
         i += 4;
-        let next = skip + 4 * w;
-        at += next >> 3;
-        skip = next & 7;
     }
     i
 }
@@ -101,6 +98,7 @@ fn fill_eights(
     let skip = (4 * w) & 7;
     let mut i: usize = 0;
     let mut at: usize = 0;
+    // As above: the place after the last eight is handed back.
     while 72 <= n - i {
         let x = packings::window(section, Order::High, at, 0);
         let y = packings::window(section, Order::High, at + half, skip);
@@ -146,15 +144,13 @@ fn fill_ones(values: &mut [i64], section: &[u8], order: Order, n: usize, fields:
     if 57 < w {
         return 0;
     }
-    let mut i: usize = 0;
-    let mut bit: usize = 0;
-    while 64 <= n - i {
+    let end = n.saturating_sub(63);
+    for i in 0..end {
+        let bit = i * w;
         let x = packings::window(section, order, bit >> 3, bit & 7);
         put_part(values, order, i, x, 0, w, low, fields.divisor);
-        i += 1;
-        bit += w;
     }
-    i
+    end
 }
 
 // As many of the first values as windows hold. Says how many.
@@ -181,17 +177,11 @@ pub fn fill(values: &mut [i64], section: &[u8], order: Order, n: usize, fields: 
 {
     let low = signed::biased_of(fields.smallest);
     let w = fields.width as usize;
-    let mut i = fill_windows(values, section, order, n, fields);
-    let mut at = packing::byte_of(i, w);
-    let mut skip = packing::skip_of(i, w);
-    while i < n {
-        let x = packings::next_of(section, order, w, i, n, at, skip);
-        let v = value_from(low, fields.divisor, x);
-        values[i] = v;
-        i += 1;
-        let next = skip + w;
-        at += next >> 3;
-        skip = next & 7;
+    let done = fill_windows(values, section, order, n, fields);
+    for i in done..n {
+        let bit = i * w;
+        let x = packings::next_of(section, order, w, i, n, bit >> 3, bit & 7);
+        values[i] = value_from(low, fields.divisor, x);
     }
 }
 
@@ -217,21 +207,14 @@ pub fn draw(
 {
     let low = signed::biased_of(fields.smallest);
     let w = fields.width as usize;
-    let mut o = x;
-    let mut at = packing::byte_of(x, w);
-    let mut skip = packing::skip_of(x, w);
-    let mut i = from;
-    while i < end {
-        let stored = packings::next_of(section, order, w, o, n, at, skip);
-        let Fetched::Value(value) = scaling::value_above(low, fields.divisor, stored) else {
+    for i in from..end {
+        let o = x + (i - from);
+        let bit = o * w;
+        let stored = packings::next_of(section, order, w, o, n, bit >> 3, bit & 7);
+        let Some(value) = scaling::value_above(low, fields.divisor, stored) else {
             return i;
         };
         values[i] = value;
-        o += 1;
-        i += 1;
-        let next = skip + w;
-        at += next >> 3;
-        skip = next & 7;
     }
-    i
+    end
 }

@@ -1,6 +1,6 @@
 -- The header rules on one smallest value, divisor and width, and the fields of a list of values, as plain facts. Assumes nothing.
-use Rattle.format.specs.Kit.{◌≡◌, sym, ap, ◌∙◌, true, List, ℕ, ◌+◌, ◌*◌, ◌/◌, ◌^◌, ◌≤◌, ◌<◌, div-le_self, lt_of_le_of_lt, arith, leb-true, eqb-true, ℤ, length}
-use Rattle.format.specs.Limits.{max_width}
+use Rattle.format.specs.Kit.{◌≡◌, sym, ap, ◌∙◌, true, List, ℕ, ◌+◌, ◌*◌, ◌/◌, ◌^◌, ◌≤◌, ◌<◌, div-le_self, lt_of_le_of_lt, mul-le-mul, arith, leb-true, eqb-true, ℤ, length}
+use Rattle.format.specs.Limits.{max_count, max_width}
 use Rattle.format.specs.HeaderNumbers.{zigzag}
 use Rattle.format.specs.Bits.{packed_bytes}
 use Rattle.format.specs.Values.{smallest, spread, divisor}
@@ -31,6 +31,11 @@ rules_kept o n f v e =
 -- a number of the n is within the section
 pub inside : {o : Order} {n : ℕ} {f : Fields} (s : List ℕ) → Rules o n f (length s) → (i : ℕ) → i < n → i * f.width + f.width ≤ 8 * length s
 inside {o} {n} {f} s r i h = omega (arith, within i f.width n h, r.bytes)
+
+-- and its bits begin before the count of bits can wrap
+pub few_bits : {o : Order} {n : ℕ} {f : Fields} {v i : ℕ} → Rules o n f v → n ≤ max_count → i ≤ n → i * f.width < 2 ^ 64
+few_bits {o} {n} {f} {v} {i} r few k =
+    omega (arith, mul-le-mul {n₁ = i} {m₁ = f.width} {n₂ = 2147352576} {m₂ = 64} (omega (arith, k, few)) r.narrow)
 
 -- ---- the fields of a list
 

@@ -17,7 +17,7 @@ use packings::Order;
 
 mod slots;
 
-pub use slots::{Slot, Slotted, number_in, value_of, whole};
+pub use slots::{Slot, number_in, value_of, whole};
 
 // What the header says of the values.
 pub fn plan(order: Order, values: &[i64]) -> Fields
@@ -44,13 +44,7 @@ pub fn rules(order: Order, fields: Fields, packed: u64, v: u64) -> bool
     requires { fields.width ≤ max_width }
     ensures { (n : ℕ) → packed ≡ packed_bytes n fields.width → result ≡ (scaled (packing_of order)).fields_ok n (fields_of fields) v }
 {
-    if fields.divisor < 1 {
-        return false;
-    }
-    if !packings::width_ok(order, fields.width) {
-        return false;
-    }
-    v == packed
+    fields.divisor >= 1 && packings::width_ok(order, fields.width) && v == packed
 }
 
 // Writes the numbers stored of the values, by a divisor and from the smallest value on (`low`, biased), packed at the width for them, to the
@@ -66,11 +60,9 @@ pub fn put_numbers(out: &mut [u8], order: Order, values: &[i64], low: u64, divis
         have: 0,
         acc: 0,
     };
-    let mut i = 0;
-    while i < values.len() {
-        let x = scaling::quotient(signed::biased(values[i]) - low, divisor, m);
+    for v in values {
+        let x = scaling::quotient(signed::biased(*v) - low, divisor, m);
         p = packings::push(out, order, p, w, x);
-        i += 1;
     }
     packings::finish(out, order, p);
 }

@@ -4,11 +4,10 @@ ghost use Rattle.std.specs.Prelude.{◌≡◌, ◌<◌, ◌^◌};
 ghost use Rattle.answers.specs.Replies.{fetched_of};
 ghost use Rattle.scaled_values.specs.Slots.{whole_slot, Stands, slot_number, slot_value};
 
-use answers::Fetched;
 use packings::Order;
 
 // Number `index` of `width` bits, from a byte of the section on; its value stands above `low`, which is biased.
-#[derive(Clone, Copy)]
+#[derive(Clone, Copy, Debug, PartialEq, Eq)]
 pub struct Slot {
     pub start: usize,
     pub width: usize,
@@ -16,18 +15,11 @@ pub struct Slot {
     pub low: u64,
 }
 
-// Where a number stands, or that it reaches past the section.
-#[derive(Clone, Copy)]
-pub enum Slotted {
-    At(Slot),
-    Outside,
-}
-
 // Of ordinal i, where all values have one smallest value and width.
-pub fn whole(width: u64, smallest: u64, i: u64) -> Slotted
+pub fn whole(width: u64, smallest: u64, i: u64) -> Option<Slot>
     ensures { (result ≡ whole_slot width smallest i) × (smallest < 2 ^ 64) }
 {
-    Slotted::At(Slot {
+    Some(Slot {
         start: 0,
         width: width as usize,
         index: i as usize,
@@ -36,11 +28,11 @@ pub fn whole(width: u64, smallest: u64, i: u64) -> Slotted
 }
 
 // The number that stands there.
-pub fn number_in(section: &[u8], order: Order, slot: Slotted) -> u64
+pub fn number_in(section: &[u8], order: Order, slot: Option<Slot>) -> u64
     requires { Stands order section.now slot }
     ensures { result ≡ slot_number order section.now slot }
 {
-    let Slotted::At(at) = slot else {
+    let Some(at) = slot else {
         return 0;
     };
     let start = at.start;
@@ -48,12 +40,12 @@ pub fn number_in(section: &[u8], order: Order, slot: Slotted) -> u64
 }
 
 // And its value, which must fit in 64 bits.
-pub fn value_of(divisor: u64, slot: Slotted, stored: u64) -> Fetched
+pub fn value_of(divisor: u64, slot: Option<Slot>, stored: u64) -> Option<i64>
     requires { 0 < divisor }
     ensures { fetched_of result ≡ slot_value divisor slot stored }
 {
-    let Slotted::At(at) = slot else {
-        return Fetched::Outside;
+    let Some(at) = slot else {
+        return None;
     };
     scaling::value_above(at.low, divisor, stored)
 }

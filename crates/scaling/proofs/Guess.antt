@@ -1,5 +1,5 @@
 -- A quotient guessed by a product, and the room that products have. Assumes nothing.
-use Rattle.format.specs.Kit.{◌≡◌, refl, sym, ap, ◌∙◌, Bool, true, false, ℕ, ◌+◌, ◌*◌, ◌/◌, ◌%◌, ◌^◌, ◌≤◌, ◌<◌, mul-one, mul_assoc, mul_comm}
+use Rattle.format.specs.Kit.{◌≡◌, refl, sym, ap, ◌∙◌, Bool, true, false, ℕ, ◌*◌, ◌/◌, ◌%◌, ◌^◌, ◌≤◌, ◌<◌, mul-one, mul_assoc, mul_comm}
 use Rattle.format.specs.Kit.{mul-le-mul, mul-le-mul_right, mul-le-mul_left, le-div_iff_mul-le, div-lt_iff_lt-mul, leb}
 use Rattle.format.specs.Kit.{leb-true, leb-false, le-leb, lt-leb, arith, mul-div_cancel_left}
 use Rattle.format.specs.Values.{gcd}

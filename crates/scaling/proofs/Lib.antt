@@ -5,3 +5,5 @@ pub mod Spread
 pub mod Keep
 pub mod Stored
 pub mod Ranged
+pub mod Kept
+pub mod Part

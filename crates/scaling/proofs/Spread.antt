@@ -1,5 +1,5 @@
 -- What is worked out of the biased forms is the values' scale. Assumes nothing.
-use Rattle.format.specs.Kit.{◌≡◌, sym, ap, ◌∙◌, List, ℕ, ◌+◌, ◌-◌, ◌≤◌, ◌<◌, add-one, arith, eq-eqb, ne_eqb, T, ℤ, pos, length, drop, get_or, le_z}
+use Rattle.format.specs.Kit.{◌≡◌, sym, ap, ap₂, ◌∙◌, List, ℕ, ◌+◌, ◌-◌, ◌≤◌, ◌<◌, add-one, arith, eq-eqb, ne_eqb, T, ℤ, pos, length, get_or, le_z}
 use Rattle.format.specs.Kit.{drop_of_length-le, drop-cons}
 use Rattle.format.specs.HeaderNumbers.{zigzag}
 use Rattle.format.specs.Values.{smallest, greatest, over, spread, gcd, gcd_from, differences, divisor}
@@ -9,6 +9,7 @@ use Rattle.laws.proofs.Fits.{fits_size, smallest_fits, greatest_fits}
 use Rattle.signed.specs.Sign.{biased, unbiased}
 use Rattle.signed.proofs.Signs.{biased_le, biased_over, unbiased_biased}
 use Rattle.scaling.specs.Scaled.{EndsOf, gcd_at}
+use Rattle.scaling.proofs.Part.{ValueAt}
 
 module _ (vs : List ℤ) (t : Each Fits vs) (i : ℕ) (h : i < length vs) where
   -- no value is below the smallest
@@ -31,9 +32,19 @@ spread_is {vs} {l} {h} e =
     omega (arith, e.low, e.high)
 
 -- value i, and those after it
-pub gcd_next : (g i : ℕ) (vs : List ℤ) → i < length vs → gcd_at g i vs ≡ gcd_at (gcd g (over (smallest vs) (get_or vs i (pos 0)))) (i + 1) vs
+gcd_next : (g i : ℕ) (vs : List ℤ) → i < length vs → gcd_at g i vs ≡ gcd_at (gcd g (over (smallest vs) (get_or vs i (pos 0)))) (i + 1) vs
 unfolding gcd_from
 gcd_next g i vs h = rw (add-one, drop-cons vs i (pos 0))
+
+-- the same, biased
+pub low_at : {vs : List ℤ} {i b l : ℕ} → l ≡ biased (smallest vs) → Each Fits vs → ValueAt vs i b → l ≤ b
+low_at {vs} {i} e t r = omega (arith, e, r.is, low_le vs t i r.inside)
+
+pub gcd_more : {vs : List ℤ} {i j b l : ℕ} (g : ℕ) → l ≡ biased (smallest vs) → Each Fits vs → ValueAt vs i b → j ≡ i + 1
+    → gcd_at g i vs ≡ gcd_at (gcd g (b - l)) j vs
+gcd_more {vs} {i} {j} {b} {l} g e t r k =
+    gcd_next g i vs r.inside
+    ∙ ap₂ (λ (x n : ℕ). gcd_at (gcd g x) n vs) (sym (over_at vs t i r.inside b l r.is e)) (sym k)
 
 pub gcd_none : (g i : ℕ) (vs : List ℤ) → length vs ≤ i → gcd_at g i vs ≡ g
 unfolding gcd_from

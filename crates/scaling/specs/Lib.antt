@@ -2,3 +2,4 @@
 pub mod Scaled
 pub mod Reciprocal
 pub mod Numbers
+pub mod Passed

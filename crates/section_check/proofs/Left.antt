@@ -24,9 +24,9 @@ module _ (ord : Order) (es l : List Entry) (q : not_two es ≡ l) (j : ℕ) (s :
   rest_count h = rw (q, ne_eqb j (length l) h)
 
   module _ (k : j ≡ length l) (b : ℕ) where
-    pub rest_wrong : refused jump_wrong b ≡ judge_entries ord l s (e.start + 6) → refused jump_wrong b ≡ judge_rest ord (not_two es) j s e
+    pub rest_wrong : (why : ℕ) → refused why b ≡ judge_entries ord l s (e.start + 6) → refused why b ≡ judge_rest ord (not_two es) j s e
     unfolding judge_rest need and_then
-    rest_wrong h = rw (q, eq-eqb j (length l) k, ← h)
+    rest_wrong why h = rw (q, eq-eqb j (length l) k, ← h)
 
     pub rest_over : done b ≡ judge_entries ord l s (e.start + 6) → (b ≡ length s → ⊥) → refused left_over b ≡ judge_rest ord (not_two es) j s e
     unfolding judge_rest need and_then

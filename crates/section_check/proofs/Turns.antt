@@ -1,7 +1,7 @@
 -- The turns of the judge's loops. Over the blocks the loop keeps a fuel that will do, and that the judge from the start is the judge from here;
 -- over equal entries, that those passed were right. Assumes nothing.
 use Rattle.format.specs.Kit.{◌≡◌, refl, sym, ap, ap₂, ◌∙◌, Bool, true, false, cond, ◌&&◌, List, [], ◌∷◌, ◌++◌, ℕ, zero, suc, ◌+◌, ◌-◌, ◌*◌, ◌<◌, ◌≤◌}
-use Rattle.format.specs.Kit.{add-zero, arith, add-one, eqb, leb, length, take, drop, replicate, get_or, eq-eqb, ne_eqb, le-leb, lt-leb, lt-ltb, le-ltb}
+use Rattle.format.specs.Kit.{arith, add-one, eqb, leb, length, take, drop, replicate, get_or, eq-eqb, ne_eqb, le-leb, lt-leb, lt-ltb, le-ltb}
 use Rattle.format.specs.Kit.{leb-true}
 use Rattle.format.specs.Limits.{max_block, end_number}
 use Rattle.format.specs.Refusals.{Outcome, done, refused, need}
@@ -10,12 +10,26 @@ use Rattle.format.specs.Ids.{Entry, data_bytes, block_bytes}
 use Rattle.format.specs.Orders.{Order, fixed_at, end_in, entry_in}
 use Rattle.format.specs.Judge.{cut_off, block_order, place_order, ones_unlike, rank_wrong, end_wrong, places_ok, ones_ok, ranks_ok, first_failed, tests_at, unless_fault}
 use Rattle.format.specs.Judge.{Ended, judge_from, judge_entries}
+use Rattle.answers.specs.Replies.{reason_number}
+use Rattle.answers.specs.declared.Reason.{Reason}
+use Rattle.answers.specs.declared.Reason.TheVariants.{CutOff, BlockOrder, PlaceOrder, OnesUnlike, RankWrong, EndWrong, JumpWrong, LeftOver}
 use Rattle.laws.proofs.Sizes.{block_total}
 use Rattle.laws.proofs.Tests.{both_true}
 use Rattle.section_check.proofs.Bytes.{entry_same, end_same}
 use Rattle.section_check.specs.Reasons.{head_then, words_reason, block_reason, end_reason, Turn, Repeats}
 
 -- ---- reasons
+
+-- none has number 0
+pub some_reason : (why : Reason) → reason_number why ≡ 0 → ⊥
+some_reason CutOff e = omega arith
+some_reason BlockOrder e = omega arith
+some_reason PlaceOrder e = omega arith
+some_reason OnesUnlike e = omega arith
+some_reason RankWrong e = omega arith
+some_reason EndWrong e = omega arith
+some_reason JumpWrong e = omega arith
+some_reason LeftOver e = omega arith
 
 -- what goes on where there is none
 unfoldable pub by_reason : ℕ → ℕ → Outcome Ended → Outcome Ended
@@ -202,11 +216,6 @@ Kept ord s from n o at i =
     (more : List Entry) → judge_entries ord (replicate n (o, at) ++ more) s from ≡ judge_entries ord (replicate (n - i) (o, at) ++ more) s (from + 8 * i)
 
 module _ (ord : Order) (s : List ℕ) (from n o at : ℕ) where
-  pub kept_begin : Kept ord s from n o at 0
-  kept_begin more =
-      let e : n ≡ n - 0 = omega arith in
-      ap₂ (λ (x y : ℕ). judge_entries ord (replicate x (o, at) ++ more) s y) e (sym (add-zero from))
-
   module _ (i : ℕ) (t : Kept ord s from n o at i) where
     pub kept_on : i < n → same (take 8 (drop (from + 8 * i) s)) (entry_in ord (o, at)) ≡ true → Kept ord s from n o at (i + 1)
     unfolding judge_entries need

@@ -1,5 +1,5 @@
--- The tests of a block and of the end block as reasons, 0 for none, and what the code's enums stand for. Assumes nothing.
-use Rattle.std.specs.Prelude.{◌≡◌, ◌+◌, ◌*◌, ◌≤◌, ◌<◌, ◌&&◌, ◌++◌}
+-- The tests of a block and of the end block as reasons, 0 for none, and what the code's results stand for. Assumes nothing.
+use Rattle.std.specs.Prelude.{◌≡◌, ◌+◌, ◌*◌, ◌≤◌, ◌<◌, ◌&&◌, ◌++◌, ⊤, Ok, Err}
 use Rattle.format.specs.Kit.{ℕ, cond, List, length, take, drop, replicate, leb, ltb}
 use Rattle.format.specs.Refusals.{Outcome, done, refused}
 use Rattle.format.specs.Bytes.{same}
@@ -8,9 +8,16 @@ use Rattle.format.specs.Limits.{max_block, block_places, dense_count, end_number
 use Rattle.format.specs.Orders.{Order, fixed_at, end_in}
 use Rattle.format.specs.Judge.{places_ok, ones_ok, ranks_ok, cut_off, block_order, place_order, ones_unlike, rank_wrong, end_wrong, jump_wrong}
 use Rattle.format.specs.Judge.{Ended, judge_from, judge_entries}
-use Rattle.section_check.specs.declared.Walk as Wa
-use Rattle.section_check.specs.declared.EntriesEnd as En
-use Rattle.section_check.specs.declared.Verdict as Ve
+use Rattle.answers.specs.Replies.{reason_number}
+use Rattle.answers.specs.declared.Reason.{Reason}
+use Rattle.section_check.specs.declared.Stand.{Stand}
+use Rattle.section_check.specs.declared.Fault.{Fault}
+use Rattle.std.specs.declared.result.Result.{Result}
+
+-- what a test of the code gives
+abbrev pub reason_in : Result ⊤ Reason → ℕ
+reason_in (Ok _) = 0
+reason_in (Err why) = reason_number why
 
 -- cut off and block order, and what is left where neither is told
 abbrev pub head_then : ℕ → List ℕ → ℕ → ℕ → ℕ → ℕ → ℕ → ℕ
@@ -41,9 +48,9 @@ pub record Passed (ord : Order) (p : ℕ) (s : List ℕ) (start before least at 
   pub most : next ≤ 32766
 
 -- or it stopped at a fault
-abbrev pub Walked : Order → ℕ → List ℕ → ℕ → ℕ → ℕ → Wa.Walk → Type 0
-Walked ord p s start before least (Wa.Walk.At at count next) = Passed ord p s start before least at count next
-Walked ord p s start before least (Wa.Walk.Fault why at) = (whole : Outcome Ended) → Turn whole ord p s start before least → refused why at ≡ whole
+abbrev pub Walked : Order → ℕ → List ℕ → Stand → Result Stand Fault → Type 0
+Walked ord p s from (Ok to) = Passed ord p s from.at from.count from.next to.at to.count to.next
+Walked ord p s from (Err f) = (whole : Outcome Ended) → Turn whole ord p s from.at from.count from.next → refused (reason_number f.reason) f.at ≡ whole
 
 -- the entries from a place on, of which the first n are one and the same, of which r are right before the first wrong one
 unfoldable pub Repeats : Order → List ℕ → ℕ → ℕ → ℕ → ℕ → ℕ → Type 0
@@ -51,17 +58,15 @@ Repeats ord s from n o at r =
     (more : List Entry) → judge_entries ord (replicate n (o, at) ++ more) s from
     ≡ cond (ltb r n) (refused jump_wrong (from + 8 * r)) (judge_entries ord more s (from + 8 * n))
 
-abbrev pub ended_at : ℕ → ℕ → ℕ → Ended
-ended_at start count next = record { start = start; count = count; next = next }
+-- where the walk stands when it is over
+abbrev pub stand_is : Stand → Ended
+stand_is e = record { start = e.at; count = e.count; next = e.next }
 
-abbrev pub walk_of : Wa.Walk → Outcome Ended
-walk_of (Wa.Walk.At start count next) = done (record { start = start; count = count; next = next })
-walk_of (Wa.Walk.Fault why at) = refused why at
+abbrev pub walk_of : Result Stand Fault → Outcome Ended
+walk_of (Ok e) = done (stand_is e)
+walk_of (Err f) = refused (reason_number f.reason) f.at
 
-abbrev pub entries_of : En.EntriesEnd → Outcome ℕ
-entries_of (En.EntriesEnd.At at) = done at
-entries_of (En.EntriesEnd.Wrong at) = refused jump_wrong at
-
-abbrev pub verdict_of : Ve.Verdict → Outcome ℕ
-verdict_of (Ve.Verdict.Accepted n) = done n
-verdict_of (Ve.Verdict.Faulty why at) = refused why at
+-- a number of ids, or a place
+abbrev pub verdict_of : Result ℕ Fault → Outcome ℕ
+verdict_of (Ok n) = done n
+verdict_of (Err f) = refused (reason_number f.reason) f.at

@@ -10,10 +10,10 @@ ghost use Rattle.format.specs.Limits.{Power, block_places, end_number, max_block
 ghost use Rattle.format.specs.Orders.{fixed_at, entry_in};
 ghost use Rattle.format.specs.Judge.{judge_from, jumps_in, judge_entries, judge_rest, judge};
 ghost use Rattle.answers.specs.Replies.{order_of};
-ghost use Rattle.section_check.specs.Reasons.{end_reason, Walked, Repeats, ended_at, walk_of, entries_of, verdict_of};
+ghost use Rattle.section_check.specs.Reasons.{reason_in, end_reason, Walked, Repeats, stand_is, walk_of, verdict_of};
 
 use answers::{ByteOrder, Reason};
-use block::{sparse_reason, wide_reason};
+use block::{test_sparse, test_wide};
 use blocks::{Block, data_bytes};
 use numbers::{int_in, long, short_in, size};
 
@@ -21,114 +21,103 @@ mod block;
 
 pub use block::ascending;
 
-// Where the walk over the blocks stands: a block's start, the ids before it and the least number that it may have; or a reason and a
-// place.
-#[derive(Clone, Copy)]
-enum Walk {
-    At(usize, u64, u64),
-    Fault(u64, usize),
+// Where the walk over the blocks stands: a block's start, the ids before it and the least number that it may have.
+#[derive(Clone, Copy, Debug, Default, PartialEq, Eq)]
+struct Stand {
+    at: usize,
+    count: u64,
+    next: u64,
 }
 
-// The place after the jump entries, or that of the first wrong one.
-#[derive(Clone, Copy)]
-enum EntriesEnd {
-    At(usize),
-    Wrong(usize),
-}
-
-// The number of ids; or a reason and a place.
-#[derive(Clone, Copy)]
-pub enum Verdict {
-    Accepted(u64),
-    Faulty(u64, usize),
+// The first fault, and its place in the section.
+#[derive(Clone, Copy, Debug, PartialEq, Eq)]
+pub struct Fault {
+    pub reason: Reason,
+    pub at: usize,
 }
 
 // A block numbered 32767 is the end block.
-fn end_reason(s: &[u8], order: ByteOrder, at: usize) -> u64
+fn test_end(s: &[u8], order: ByteOrder, at: usize) -> Result<(), Reason>
     requires { (at + 4 ≤ length s.now) × (fixed_at (order_of order) 2 s.now at ≡ end_number) }
-    ensures { result ≡ end_reason (order_of order) s.now at }
+    ensures { reason_in result ≡ end_reason (order_of order) s.now at }
 {
     if s.len() - at < 6 {
-        return Reason::CUT_OFF;
+        return Err(Reason::CutOff);
     }
     if short_in(order, s, at + 2) != 0 {
-        return Reason::END_WRONG;
+        return Err(Reason::EndWrong);
     }
     if short_in(order, s, at + 4) != 65535 {
-        return Reason::END_WRONG;
+        return Err(Reason::EndWrong);
     }
-    0
+    Ok(())
 }
 
 // Goes over sparse blocks, up to one of another kind or the end block.
-fn sparse_blocks(
-    s: &[u8],
-    order: ByteOrder,
-    p: usize,
-    start: usize,
-    before: u64,
-    least: u64,
-) -> Walk
-    requires { (Power p) × (start ≤ length s.now) × (before ≤ block_places * least) × (least ≤ max_blocks) }
-    ensures { Walked (order_of order) p s.now start before least result }
+fn sparse_blocks(s: &[u8], order: ByteOrder, p: usize, from: Stand) -> Result<Stand, Fault>
+    requires { (Power p) × (from.at ≤ length s.now) × (from.count ≤ block_places * from.next) × (from.next ≤ max_blocks) }
+    ensures { Walked (order_of order) p s.now from result }
 {
-    let mut at = start;
-    let mut count = before;
-    let mut next = least;
-    while s.len() - at >= 4 {
-        let k = short_in(order, s, at);
+    let mut here = from;
+    while s.len() - here.at >= 4 {
+        let k = short_in(order, s, here.at);
         if k == Block::END {
-            return Walk::At(at, count, next);
+            return Ok(here);
         }
-        let c = short_in(order, s, at + 2) + 1;
+        let c = short_in(order, s, here.at + 2) + 1;
         let n = size(c);
         if n >= Block::DENSE_COUNT {
-            return Walk::At(at, count, next);
+            return Ok(here);
         }
-        let why = sparse_reason(s, order, at, next, k, n, p);
-        if why != 0 {
-            return Walk::Fault(why, at);
+        if let Err(reason) = test_sparse(s, order, here.at, here.next, k, n, p) {
+            return Err(Fault {
+                reason,
+                at: here.at,
+            });
         }
-        at = at + 4 + data_bytes(p, n);
-        count += c;
-        next = k + 1;
+        here = Stand {
+            at: here.at + 4 + data_bytes(p, n),
+            count: here.count + c,
+            next: k + 1,
+        };
     }
-    Walk::Fault(Reason::CUT_OFF, at)
+    Err(Fault {
+        reason: Reason::CutOff,
+        at: here.at,
+    })
 }
 
 // The blocks, one after the other, up to the end block. Sparse ones have a loop of their own: in one loop with the dense ones they wait for
 // its registers.
-fn judge_blocks(s: &[u8], order: ByteOrder, p: usize) -> Walk
+fn judge_blocks(s: &[u8], order: ByteOrder, p: usize) -> Result<Stand, Fault>
     requires { Power p }
     ensures { walk_of result ≡ judge_from (suc (length s.now)) (order_of order) p s.now 0 0 0 }
 {
-    let mut at: usize = 0;
-    let mut count: u64 = 0;
-    let mut next: u64 = 0;
-    while s.len() - at >= 4 {
-        let w = sparse_blocks(s, order, p, at, count, next);
-        let Walk::At(b, before, least) = w else {
-            return w;
-        };
-        let k = short_in(order, s, b);
+    let mut here = Stand::default();
+    while s.len() - here.at >= 4 {
+        let w = sparse_blocks(s, order, p, here)?;
+        let k = short_in(order, s, w.at);
         if k == Block::END {
-            let why = end_reason(s, order, b);
-            if why != 0 {
-                return Walk::Fault(why, b);
+            if let Err(reason) = test_end(s, order, w.at) {
+                return Err(Fault { reason, at: w.at });
             }
-            return w;
+            return Ok(w);
         }
-        let c = short_in(order, s, b + 2) + 1;
+        let c = short_in(order, s, w.at + 2) + 1;
         let n = size(c);
-        let why = wide_reason(s, b, least, k, n, p);
-        if why != 0 {
-            return Walk::Fault(why, b);
+        if let Err(reason) = test_wide(s, w.at, w.next, k, n, p) {
+            return Err(Fault { reason, at: w.at });
         }
-        at = b + 4 + data_bytes(p, n);
-        count = before + c;
-        next = k + 1;
+        here = Stand {
+            at: w.at + 4 + data_bytes(p, n),
+            count: w.count + c,
+            next: k + 1,
+        };
     }
-    Walk::Fault(Reason::CUT_OFF, at)
+    Err(Fault {
+        reason: Reason::CutOff,
+        at: here.at,
+    })
 }
 
 fn entry_is(s: &[u8], order: ByteOrder, b: usize, o: u64, at: u64) -> bool
@@ -152,104 +141,93 @@ fn repeated(s: &[u8], order: ByteOrder, from: usize, n: usize, o: u64, at: u64) 
     requires { (o < 4294967296) × (at < 4294967296) × (from < 4294967296) × (n ≤ 32768) }
     ensures { (result ≤ n) × (Repeats (order_of order) s.now from n o at result) }
 {
-    let mut i = 0;
-    while i < n {
-        let right = entry_is(s, order, from + 8 * i, o, at);
-        if !right {
+    for i in 0..n {
+        if !entry_is(s, order, from + 8 * i, o, at) {
             return i;
         }
-        i += 1;
     }
     n
 }
 
 // The entries of the blocks, which were judged already.
-fn judge_entries(
-    s: &[u8],
-    order: ByteOrder,
-    p: usize,
-    start: usize,
-    count: u64,
-    next: u64,
-) -> EntriesEnd
-    requires { (Power p) × (judge_from (suc (length s.now)) (order_of order) p s.now 0 0 0 ≡ done (ended_at start count next)) }
-    ensures { entries_of result ≡ judge_entries (order_of order) (jumps_in (order_of order) p s.now) s.now (start + 6) }
+fn judge_entries(s: &[u8], order: ByteOrder, p: usize, end: Stand) -> Result<usize, Fault>
+    requires { (Power p) × (judge_from (suc (length s.now)) (order_of order) p s.now 0 0 0 ≡ done (stand_is end)) }
+    ensures { verdict_of result ≡ judge_entries (order_of order) (jumps_in (order_of order) p s.now) s.now (end.at + 6) }
 {
-    let base = start + 6;
+    let base = end.at + 6;
     let mut at: usize = 0;
     let mut o: u64 = 0;
     let mut i: usize = 0;
-    while at < start {
+    while at < end.at {
         let k = size(short_in(order, s, at));
         let c = short_in(order, s, at + 2) + 1;
         let n = k + 1 - i;
         let from = base + 8 * i;
         let r = repeated(s, order, from, n, o, long(at));
         if r < n {
-            return EntriesEnd::Wrong(from + 8 * r);
+            return Err(Fault {
+                reason: Reason::JumpWrong,
+                at: from + 8 * r,
+            });
         }
         at = at + 4 + data_bytes(p, size(c));
         o += c;
         i = k + 1;
     }
     let last = base + 8 * i;
-    let right = entry_is(s, order, last, o, long(at));
-    if right {
-        return EntriesEnd::At(last + 8);
+    if !entry_is(s, order, last, o, long(at)) {
+        return Err(Fault {
+            reason: Reason::JumpWrong,
+            at: last,
+        });
     }
-    EntriesEnd::Wrong(last)
+    Ok(last + 8)
 }
 
 // What follows the end block.
-fn judge_rest(
-    s: &[u8],
-    order: ByteOrder,
-    p: usize,
-    j: usize,
-    start: usize,
-    count: u64,
-    next: u64,
-) -> Verdict
-    requires { (Power p) × (judge_from (suc (length s.now)) (order_of order) p s.now 0 0 0 ≡ done (ended_at start count next)) }
+fn judge_rest(s: &[u8], order: ByteOrder, p: usize, j: usize, end: Stand) -> Result<u64, Fault>
+    requires { (Power p) × (judge_from (suc (length s.now)) (order_of order) p s.now 0 0 0 ≡ done (stand_is end)) }
     ensures { verdict_of result
-        ≡ judge_rest (order_of order) (not_two (jumps_in (order_of order) p s.now)) j s.now (ended_at start count next) }
+        ≡ judge_rest (order_of order) (not_two (jumps_in (order_of order) p s.now)) j s.now (stand_is end) }
 {
-    let base = start + 6;
-    let n = size(next) + 1;
+    let base = end.at + 6;
+    let n = size(end.next) + 1;
     if n == 2 {
         if j != 0 {
-            return Verdict::Faulty(Reason::JUMP_WRONG, base);
+            return Err(Fault {
+                reason: Reason::JumpWrong,
+                at: base,
+            });
         }
         if base != s.len() {
-            return Verdict::Faulty(Reason::LEFT_OVER, base);
+            return Err(Fault {
+                reason: Reason::LeftOver,
+                at: base,
+            });
         }
-        return Verdict::Accepted(count);
+        return Ok(end.count);
     }
     if j != n {
-        return Verdict::Faulty(Reason::JUMP_WRONG, base);
+        return Err(Fault {
+            reason: Reason::JumpWrong,
+            at: base,
+        });
     }
-    let end = judge_entries(s, order, p, start, count, next);
-    match end {
-        EntriesEnd::Wrong(b) => {
-            return Verdict::Faulty(Reason::JUMP_WRONG, b);
-        }
-        EntriesEnd::At(b) => {
-            if b != s.len() {
-                return Verdict::Faulty(Reason::LEFT_OVER, b);
-            }
-            return Verdict::Accepted(count);
-        }
+    let after = judge_entries(s, order, p, end)?;
+    if after != s.len() {
+        return Err(Fault {
+            reason: Reason::LeftOver,
+            at: after,
+        });
     }
+    Ok(end.count)
 }
 
-// An id section of j jump entries, at an allowed power.
-pub fn judge(s: &[u8], order: ByteOrder, p: usize, j: usize) -> Verdict
+// An id section of j jump entries, at an allowed power: the number of ids, or the first fault.
+pub fn judge(s: &[u8], order: ByteOrder, p: usize, j: usize) -> Result<u64, Fault>
     requires { Power p }
     ensures { verdict_of result ≡ judge (order_of order) p j s.now }
 {
-    let end = judge_blocks(s, order, p);
-    match end {
-        Walk::Fault(why, at) => Verdict::Faulty(why, at),
-        Walk::At(start, count, next) => judge_rest(s, order, p, j, start, count, next),
-    }
+    let end = judge_blocks(s, order, p)?;
+    judge_rest(s, order, p, j, end)
 }

@@ -9,69 +9,78 @@ use Rattle.format.specs.SetCalls.{list_length_ok, set_data_ok, set_places, data_
 use Rattle.answers.specs.declared.Refusal.{Refusal}
 use Rattle.set_format.proofs.Data.{held}
 use Rattle.set_format.proofs.ByKind.{counted}
-use Rattle.set_blocks.specs.Found.{numbered_of}
-use Rattle.set_blocks.specs.declared.Numbered as Nu
+use Rattle.set_blocks.specs.Kinds.{kind_number}
+use Rattle.set_blocks.specs.declared.SetKind.{SetKind}
+
+pub kind_le : (k : SetKind) → kind_number k ≤ max_kind
+kind_le SetKind.Listed = omega arith
+kind_le SetKind.Missing = omega arith
+kind_le SetKind.Bitmap = omega arith
+
+-- a count that a test lets pass, and 0 otherwise
+pub by_test : (b : Bool) (n x : ℕ) → (b ≡ false → x ≡ 0) → (b ≡ true → x ≡ n) → cond b n 0 ≡ x
+by_test false n x f g = sym (f refl)
+by_test true n x f g = sym (g refl)
 
 -- ---- one step of a chain
 
 -- no number
-pub stopped : {B : Type 0} (r : Nu.Numbered) (why : Refusal) (o : Outcome (ℕ × ℕ)) (g : (ℕ × ℕ) → Outcome B) → numbered_of r ≡ o
-    → r ≡ Nu.Numbered.Refused why → refused_as why ≡ and_then o g
+pub stopped : {B : Type 0} (why : Refusal) (o : Outcome (ℕ × ℕ)) (g : (ℕ × ℕ) → Outcome B) → refused_as why ≡ o → refused_as why ≡ and_then o g
 unfolding and_then
-stopped r why o g e h = sym (ap (λ (x : Outcome (ℕ × ℕ)). and_then x g) (sym e ∙ ap numbered_of h))
+stopped why o g e = sym (ap (λ (x : Outcome (ℕ × ℕ)). and_then x g) (sym e))
 
 -- a number, which breaks its limit or keeps it
-module _ {B : Type 0} (r : Nu.Numbered) (v n : ℕ) (o : Outcome (ℕ × ℕ)) (test : (ℕ × ℕ) → Bool) (next : (ℕ × ℕ) → Outcome B)
-    (e : numbered_of r ≡ o) (h : r ≡ Nu.Numbered.Is v n) where
+module _ {B : Type 0} (v n : ℕ) (o : Outcome (ℕ × ℕ)) (test : (ℕ × ℕ) → Bool) (next : (ℕ × ℕ) → Outcome B) (e : done (v, n) ≡ o) where
   pub limit_broken : test (v, n) ≡ false → refused DAMAGED 0 ≡ and_then o (λ x. need (test x) DAMAGED 0 (next x))
   unfolding and_then need
-  limit_broken l = sym (ap (λ (x : Outcome (ℕ × ℕ)). and_then x (λ y. need (test y) DAMAGED 0 (next y))) (sym e ∙ ap numbered_of h) ∙ rw l refl)
+  limit_broken l = sym (ap (λ (x : Outcome (ℕ × ℕ)). and_then x (λ y. need (test y) DAMAGED 0 (next y))) (sym e) ∙ rw l refl)
 
   pub limit_kept : test (v, n) ≡ true → next (v, n) ≡ and_then o (λ x. need (test x) DAMAGED 0 (next x))
   unfolding and_then need
-  limit_kept l = sym (ap (λ (x : Outcome (ℕ × ℕ)). and_then x (λ y. need (test y) DAMAGED 0 (next y))) (sym e ∙ ap numbered_of h) ∙ rw l refl)
+  limit_kept l = sym (ap (λ (x : Outcome (ℕ × ℕ)). and_then x (λ y. need (test y) DAMAGED 0 (next y))) (sym e) ∙ rw l refl)
 
 -- ---- number, kind and length
 
-module _ (s : List ℕ) (at : ℕ) (r : Nu.Numbered) (e : numbered_of r ≡ number_at s at) where
+module _ (s : List ℕ) (at : ℕ) (why : Refusal) (e : refused_as why ≡ number_at s at) where
+  pub length_stop : (block kind : ℕ) → refused_as why ≡ length_from block kind s at
+  unfolding length_from
+  length_stop block kind = stopped why (number_at s at) _ e
+
+  pub kind_stop : (block : ℕ) → refused_as why ≡ kind_from block s at
+  unfolding kind_from
+  kind_stop block = stopped why (number_at s at) _ e
+
+  pub block_stop : (least : ℕ) → refused_as why ≡ block_from least s at
+  unfolding block_from
+  block_stop least = stopped why (number_at s at) _ e
+
+module _ (s : List ℕ) (at v n : ℕ) (e : done (v, n) ≡ number_at s at) where
   module _ (block kind : ℕ) where
-    pub length_stop : (why : Refusal) → r ≡ Nu.Numbered.Refused why → refused_as why ≡ length_from block kind s at
+    pub length_limit : list_length_ok kind v ≡ false → refused DAMAGED 0 ≡ length_from block kind s at
     unfolding length_from
-    length_stop why h = stopped r why (number_at s at) _ e h
+    length_limit l = limit_broken v n (number_at s at) (λ c. list_length_ok kind c.0) (λ c. data_from block kind c.0 s c.1) e l
 
-    pub length_limit : (v n : ℕ) → r ≡ Nu.Numbered.Is v n → list_length_ok kind v ≡ false → refused DAMAGED 0 ≡ length_from block kind s at
+    pub length_next : list_length_ok kind v ≡ true → data_from block kind v s n ≡ length_from block kind s at
     unfolding length_from
-    length_limit v n h l = limit_broken r v n (number_at s at) (λ c. list_length_ok kind c.0) (λ c. data_from block kind c.0 s c.1) e h l
-
-    pub length_next : (v n : ℕ) → r ≡ Nu.Numbered.Is v n → list_length_ok kind v ≡ true → data_from block kind v s n ≡ length_from block kind s at
-    unfolding length_from
-    length_next v n h l = limit_kept r v n (number_at s at) (λ c. list_length_ok kind c.0) (λ c. data_from block kind c.0 s c.1) e h l
+    length_next l = limit_kept v n (number_at s at) (λ c. list_length_ok kind c.0) (λ c. data_from block kind c.0 s c.1) e l
 
   module _ (block : ℕ) where
-    pub kind_stop : (why : Refusal) → r ≡ Nu.Numbered.Refused why → refused_as why ≡ kind_from block s at
+    pub kind_limit : leb v max_kind ≡ false → refused DAMAGED 0 ≡ kind_from block s at
     unfolding kind_from
-    kind_stop why h = stopped r why (number_at s at) _ e h
+    kind_limit l = limit_broken v n (number_at s at) (λ t. leb t.0 max_kind) (λ t. length_from block t.0 s t.1) e l
 
-    pub kind_limit : (v n : ℕ) → r ≡ Nu.Numbered.Is v n → leb v max_kind ≡ false → refused DAMAGED 0 ≡ kind_from block s at
+    pub kind_next : leb v max_kind ≡ true → length_from block v s n ≡ kind_from block s at
     unfolding kind_from
-    kind_limit v n h l = limit_broken r v n (number_at s at) (λ t. leb t.0 max_kind) (λ t. length_from block t.0 s t.1) e h l
-
-    pub kind_next : (v n : ℕ) → r ≡ Nu.Numbered.Is v n → leb v max_kind ≡ true → length_from block v s n ≡ kind_from block s at
-    unfolding kind_from
-    kind_next v n h l = limit_kept r v n (number_at s at) (λ t. leb t.0 max_kind) (λ t. length_from block t.0 s t.1) e h l
+    kind_next l = limit_kept v n (number_at s at) (λ t. leb t.0 max_kind) (λ t. length_from block t.0 s t.1) e l
 
   module _ (least : ℕ) where
-    pub block_stop : (why : Refusal) → r ≡ Nu.Numbered.Refused why → refused_as why ≡ block_from least s at
+    pub block_limit : leb least v && leb v max_block ≡ false → refused DAMAGED 0 ≡ block_from least s at
     unfolding block_from
-    block_stop why h = stopped r why (number_at s at) _ e h
+    block_limit l = limit_broken v n (number_at s at) (λ k. leb least k.0 && leb k.0 max_block) (λ k. kind_from k.0 s k.1) e l
 
-    pub block_limit : (v n : ℕ) → r ≡ Nu.Numbered.Is v n → leb least v && leb v max_block ≡ false → refused DAMAGED 0 ≡ block_from least s at
+    pub block_next : leb least v && leb v max_block ≡ true → kind_from v s n ≡ block_from least s at
     unfolding block_from
-    block_limit v n h l = limit_broken r v n (number_at s at) (λ k. leb least k.0 && leb k.0 max_block) (λ k. kind_from k.0 s k.1) e h l
-
-    pub block_next : (v n : ℕ) → r ≡ Nu.Numbered.Is v n → leb least v && leb v max_block ≡ true → kind_from v s n ≡ block_from least s at
-    unfolding block_from
-    block_next v n h l = limit_kept r v n (number_at s at) (λ k. leb least k.0 && leb k.0 max_block) (λ k. kind_from k.0 s k.1) e h l
+    block_next l = limit_kept v n (number_at s at) (λ k. leb least k.0 && leb k.0 max_block) (λ k. kind_from k.0 s k.1) e l
 
 -- ---- the data
 

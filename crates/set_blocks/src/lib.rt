@@ -2,114 +2,136 @@
 // fault of its bytes.
 #![tactic(auto)]
 
-ghost use Rattle.std.specs.Prelude.{◌≡◌, true, cond, ◌&&◌, ◌≤◌, leb, length, drop};
-ghost use Rattle.format.specs.Limits.{max_block, max_listed, max_kind, bitmap_bytes};
-ghost use Rattle.format.specs.HeaderNumbers.{number_at};
+ghost use Rattle.std.specs.Prelude.{◌≡◌, true, false, cond, ◌&&◌, ◌+◌, ◌*◌, ◌≤◌, leb, eqb, length, drop, MatchOption};
+ghost use Rattle.format.specs.Limits.{max_block, max_listed, max_kind, bitmap_longs, bitmap_bytes};
+ghost use Rattle.format.specs.IdsRead.{shorts};
+ghost use Rattle.format.specs.LookUp.{ones_from};
+ghost use Rattle.format.specs.Pairs.{asc_from};
 ghost use Rattle.format.specs.SetBytes.{set_kind};
 ghost use Rattle.format.specs.SetCalls.{list_length_ok, set_data_bytes, set_data_ok, set_places, data_from, length_from, kind_from, block_from};
-ghost use Rattle.set_blocks.specs.Found.{numbered_of, head_of, Counted};
+ghost use Rattle.set_blocks.specs.Kinds.{kind_number};
+ghost use Rattle.set_blocks.specs.Found.{head_of, Counted};
 
 use answers::{ByteOrder, Refusal};
 use blocks::Block;
-use header_numbers::Number;
 
-// A number and the place after it, or why there is none.
-#[derive(Clone, Copy)]
-pub enum Numbered {
-    Is { value: u64, next: usize },
-    Refused(Refusal),
+// How a block's ids are kept: listed, the missing ones listed, or in a bitmap.
+#[derive(Clone, Copy, Debug, PartialEq, Eq)]
+pub enum SetKind {
+    Listed,
+    Missing,
+    Bitmap,
+}
+
+impl SetKind {
+    // The number that it has on disk.
+    pub fn number(self) -> u64
+        ensures { result ≡ kind_number self }
+    {
+        match self {
+            SetKind::Listed => 0,
+            SetKind::Missing => 1,
+            SetKind::Bitmap => 2,
+        }
+    }
+
+    // The kind of a number.
+    fn numbered(n: u64) -> Option<SetKind>
+        ensures { MatchOption result (leb n max_kind ≡ false) (λ kind. (kind_number kind ≡ n) × (leb n max_kind ≡ true)) }
+    {
+        match n {
+            0 => Some(SetKind::Listed),
+            1 => Some(SetKind::Missing),
+            2 => Some(SetKind::Bitmap),
+            _ => None,
+        }
+    }
 }
 
 // A block's number, its kind, the length of its list, where its data start, and how many ids it has.
-#[derive(Clone, Copy)]
+#[derive(Clone, Copy, Debug, PartialEq, Eq)]
 pub struct SetBlock {
     pub block: u64,
-    pub kind: u64,
+    pub kind: SetKind,
     pub long: usize,
     pub start: usize,
     pub count: u64,
 }
 
 impl SetBlock {
-    // The kinds: the ids listed, the missing ones listed, a bitmap.
-    pub const LISTED: u64 = 0;
-
-    pub const MISSING: u64 = 1;
-
-    pub const BITMAP: u64 = 2;
     // The most ids that are listed; fewer missing ones than this are.
     pub const MAX_LISTED: u64 = 4096;
     // The most ids of a bitmap: with one more, fewer than 4096 are missing.
     pub const MAX_BITMAP: u64 = 61440;
 }
 
-// A block that keeps the rules, or the refusal that its first fault gets.
-#[derive(Clone, Copy)]
-pub enum Found {
-    Block(SetBlock),
-    Refused(Refusal),
-}
-
-// ---- numbers
-
-// Reads the number at a place.
-pub fn number_at(s: &[u8], at: usize) -> Numbered
-    ensures { numbered_of result ≡ number_at s.now at }
-{
-    let n = header_numbers::read_number(s, at);
-    let Number::Is { value, next } = n else {
-        return Numbered::Refused(column::refusal_of(n, s.len()));
-    };
-    Numbered::Is { value, next }
-}
-
 // ---- the data, by their kind
 
 // The kind of a block of c ids.
-pub fn kind_of(c: u64) -> u64
-    ensures { result ≡ set_kind c }
+pub fn kind_of(c: u64) -> SetKind
+    ensures { kind_number result ≡ set_kind c }
 {
     if c <= SetBlock::MAX_LISTED {
-        return SetBlock::LISTED;
+        return SetKind::Listed;
     }
     if c > SetBlock::MAX_BITMAP {
-        return SetBlock::MISSING;
+        return SetKind::Missing;
     }
-    SetBlock::BITMAP
+    SetKind::Bitmap
 }
 
 // Whether a list of this kind can have this length.
-fn length_ok(kind: u64, c: u64) -> bool
-    requires { kind ≤ max_kind }
-    ensures { result ≡ list_length_ok kind c }
+fn length_ok(kind: SetKind, c: u64) -> bool
+    ensures { result ≡ list_length_ok (kind_number kind) c }
 {
-    if kind == SetBlock::LISTED {
-        if c < 1 {
-            return false;
-        }
-        return c <= SetBlock::MAX_LISTED;
+    match kind {
+        SetKind::Listed => 1 <= c && c <= SetBlock::MAX_LISTED,
+        SetKind::Missing => c < SetBlock::MAX_LISTED,
+        SetKind::Bitmap => c == 0,
     }
-    if kind == SetBlock::MISSING {
-        return c < SetBlock::MAX_LISTED;
-    }
-    c == 0
 }
 
 // The bytes of the data.
-pub fn data_bytes(kind: u64, c: usize) -> usize
-    requires { (kind ≤ max_kind) × (c ≤ max_listed) }
-    ensures { (result ≡ set_data_bytes kind c) × (result ≤ bitmap_bytes) }
+pub fn data_bytes(kind: SetKind, c: usize) -> usize
+    requires { c ≤ max_listed }
+    ensures { (result ≡ set_data_bytes (kind_number kind) c) × (result ≤ bitmap_bytes) }
 {
-    if kind == SetBlock::BITMAP {
-        return Block::BITMAP_BYTES;
+    match kind {
+        SetKind::Listed => 2 * c,
+        SetKind::Missing => 2 * c,
+        SetKind::Bitmap => Block::BITMAP_BYTES,
     }
-    2 * c
 }
 
-// How many ids the data hold; 0 if they are cut off, or a list does not ascend, or a bitmap's count is another kind's.
-fn data_count(s: &[u8], at: usize, kind: u64, c: usize) -> u64
-    requires { (kind ≤ max_kind) × (list_length_ok kind c ≡ true) }
-    ensures { result ≡ cond (set_data_ok kind c s.now at) (length (set_places kind c (drop at s.now))) 0 }
+// How many ids a bitmap holds; 0 if that is another kind's count.
+fn bitmap_count(s: &[u8], at: usize) -> u64
+    requires { at + bitmap_bytes ≤ length s.now }
+    ensures { result ≡ cond (eqb (set_kind (ones_from s.now at bitmap_longs 0)) 2) (ones_from s.now at bitmap_longs 0) 0 }
+{
+    let ones = blocks::ones_from(s, at, Block::LONGS, 0);
+    match kind_of(ones) {
+        SetKind::Bitmap => ones,
+        _ => 0,
+    }
+}
+
+// How many ids a list of c shorts stands for, which are n if it ascends; 0 if it does not.
+fn list_count(s: &[u8], at: usize, c: usize, n: usize) -> u64
+    requires { at + 2 * c ≤ length s.now }
+    ensures { result ≡ cond (asc_from 0 (shorts c (drop at s.now))) n 0 }
+{
+    if section_check::ascending(s, ByteOrder::LowFirst, at, c) {
+        numbers::long(n)
+    } else {
+        0
+    }
+}
+
+// How many ids the data hold; 0, which no block has, if they are cut off, or a list does not ascend, or a bitmap's count is another kind's.
+fn data_count(s: &[u8], at: usize, kind: SetKind, c: usize) -> u64
+    requires { list_length_ok (kind_number kind) c ≡ true }
+    ensures { result
+        ≡ cond (set_data_ok (kind_number kind) c s.now at) (length (set_places (kind_number kind) c (drop at s.now))) 0 }
 {
     if at > s.len() {
         return 0;
@@ -117,34 +139,25 @@ fn data_count(s: &[u8], at: usize, kind: u64, c: usize) -> u64
     if s.len() - at < data_bytes(kind, c) {
         return 0;
     }
-    if kind == SetBlock::BITMAP {
-        let ones = blocks::ones_from(s, at, Block::LONGS, 0);
-        if kind_of(ones) != SetBlock::BITMAP {
-            return 0;
-        }
-        return ones;
+    match kind {
+        SetKind::Listed => list_count(s, at, c, c),
+        SetKind::Missing => list_count(s, at, c, Block::PLACES - c),
+        SetKind::Bitmap => bitmap_count(s, at),
     }
-    if !section_check::ascending(s, ByteOrder::LowFirst, at, c) {
-        return 0;
-    }
-    if kind == SetBlock::MISSING {
-        return numbers::long(Block::PLACES - c);
-    }
-    numbers::long(c)
 }
 
 // ---- the block, from its last step to its first
 
 // The data.
-fn data_from(s: &[u8], at: usize, block: u64, kind: u64, c: usize) -> Found
-    requires { (kind ≤ max_kind) × (list_length_ok kind c ≡ true) }
-    ensures { (head_of result ≡ data_from block kind c s.now at) × Counted s.now result }
+fn data_from(s: &[u8], at: usize, block: u64, kind: SetKind, c: usize) -> Result<SetBlock, Refusal>
+    requires { list_length_ok (kind_number kind) c ≡ true }
+    ensures { (head_of result ≡ data_from block (kind_number kind) c s.now at) × Counted s.now result }
 {
     let count = data_count(s, at, kind, c);
     if count == 0 {
-        return Found::Refused(Refusal::Damaged);
+        return Err(Refusal::Damaged);
     }
-    Found::Block(SetBlock {
+    Ok(SetBlock {
         block,
         kind,
         long: c,
@@ -154,36 +167,25 @@ fn data_from(s: &[u8], at: usize, block: u64, kind: u64, c: usize) -> Found
 }
 
 // The list length, and what follows.
-fn length_from(s: &[u8], at: usize, block: u64, kind: u64) -> Found
-    requires { kind ≤ max_kind }
-    ensures { (head_of result ≡ length_from block kind s.now at) × Counted s.now result }
+fn length_from(s: &[u8], at: usize, block: u64, kind: SetKind) -> Result<SetBlock, Refusal>
+    ensures { (head_of result ≡ length_from block (kind_number kind) s.now at) × Counted s.now result }
 {
-    let n = number_at(s, at);
-    match n {
-        Numbered::Refused(why) => Found::Refused(why),
-        Numbered::Is { value, next } => {
-            if !length_ok(kind, value) {
-                return Found::Refused(Refusal::Damaged);
-            }
-            data_from(s, next, block, kind, numbers::size(value))
-        }
+    let number = column::number_at(s, at)?;
+    if !length_ok(kind, number.value) {
+        return Err(Refusal::Damaged);
     }
+    data_from(s, number.next, block, kind, numbers::size(number.value))
 }
 
 // The kind, and what follows.
-fn kind_from(s: &[u8], at: usize, block: u64) -> Found
+fn kind_from(s: &[u8], at: usize, block: u64) -> Result<SetBlock, Refusal>
     ensures { (head_of result ≡ kind_from block s.now at) × Counted s.now result }
 {
-    let n = number_at(s, at);
-    match n {
-        Numbered::Refused(why) => Found::Refused(why),
-        Numbered::Is { value, next } => {
-            if value > SetBlock::BITMAP {
-                return Found::Refused(Refusal::Damaged);
-            }
-            length_from(s, next, block, value)
-        }
-    }
+    let number = column::number_at(s, at)?;
+    let Some(kind) = SetKind::numbered(number.value) else {
+        return Err(Refusal::Damaged);
+    };
+    length_from(s, number.next, block, kind)
 }
 
 // Whether a block may have this number, where the numbers before it are below `least`.
@@ -197,17 +199,12 @@ fn block_ok(least: u64, block: u64) -> bool
 }
 
 // The block at a place, numbered `least` or above.
-pub fn block_from(s: &[u8], at: usize, least: u64) -> Found
+pub fn block_from(s: &[u8], at: usize, least: u64) -> Result<SetBlock, Refusal>
     ensures { (head_of result ≡ block_from least s.now at) × Counted s.now result }
 {
-    let n = number_at(s, at);
-    match n {
-        Numbered::Refused(why) => Found::Refused(why),
-        Numbered::Is { value, next } => {
-            if !block_ok(least, value) {
-                return Found::Refused(Refusal::Damaged);
-            }
-            kind_from(s, next, value)
-        }
+    let number = column::number_at(s, at)?;
+    if !block_ok(least, number.value) {
+        return Err(Refusal::Damaged);
     }
+    kind_from(s, number.next, number.value)
 }

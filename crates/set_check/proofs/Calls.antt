@@ -9,12 +9,9 @@ use Rattle.answers.specs.Replies.{refusal_number, refusal_with, refused_as}
 use Rattle.format.specs.SetCalls.{Member, blocks_from, member_at, member_in, no_member, set_check, set_find, set_ids}
 use Rattle.laws.proofs.Tests.{result}
 use Rattle.set_blocks.proofs.Steps.{limit_broken, limit_kept, stopped}
-use Rattle.set_blocks.specs.Found.{numbered_of}
-use Rattle.set_check.specs.Tally.{nothing, onto, tallied, tally_of, walked_from, walked_of}
+use Rattle.set_check.specs.Tally.{nothing, onto, tallied, tally_of, walked_from}
 use Rattle.set_check.specs.declared.Tally.{Tally}
 use Rattle.answers.specs.declared.Refusal.{Refusal}
-use Rattle.set_blocks.specs.declared.Numbered as Nu
-use Rattle.set_check.specs.declared.Walked as Wa
 
 -- ---- the whole walk
 
@@ -58,19 +55,19 @@ module _ (s : List ℕ) (id : ℕ) where
   unfolding tallied set_ids
   whole = then_then (number_at s 0) list_from _ ∙ same_then (number_at s 0) _ from_number from_there
 
-  module _ (r : Nu.Numbered) (e : numbered_of r ≡ number_at s 0) where
-    pub walk_stop : (why : Refusal) → r ≡ Nu.Numbered.Refused why → refused_as why ≡ tallied s id
-    walk_stop why h = stopped r why (number_at s 0) from_number e h ∙ sym whole
+  pub walk_stop : (why : Refusal) → refused_as why ≡ number_at s 0 → refused_as why ≡ tallied s id
+  walk_stop why e = stopped why (number_at s 0) from_number e ∙ sym whole
 
-    pub walk_limit : (v n : ℕ) → r ≡ Nu.Numbered.Is v n → leb v 32766 ≡ false → refused DAMAGED 0 ≡ tallied s id
-    walk_limit v n h l = limit_broken r v n (number_at s 0) (λ m. leb m.0 32766) (λ m. walked_from s id m.0 0 m.1 nothing) e h l ∙ sym whole
+  module _ (v n : ℕ) (e : done (v, n) ≡ number_at s 0) where
+    pub walk_limit : leb v 32766 ≡ false → refused DAMAGED 0 ≡ tallied s id
+    walk_limit l = limit_broken v n (number_at s 0) (λ m. leb m.0 32766) (λ m. walked_from s id m.0 0 m.1 nothing) e l ∙ sym whole
 
-    pub walk_next : (v n : ℕ) → r ≡ Nu.Numbered.Is v n → leb v 32766 ≡ true → walked_from s id v 0 n nothing ≡ tallied s id
-    walk_next v n h l = limit_kept r v n (number_at s 0) (λ m. leb m.0 32766) (λ m. walked_from s id m.0 0 m.1 nothing) e h l ∙ sym whole
+    pub walk_next : leb v 32766 ≡ true → walked_from s id v 0 n nothing ≡ tallied s id
+    walk_next l = limit_kept v n (number_at s 0) (λ m. leb m.0 32766) (λ m. walked_from s id m.0 0 m.1 nothing) e l ∙ sym whole
 
 -- ---- the calls
 
-module _ (s : List ℕ) (id : ℕ) (w : Wa.Walked) (e : walked_of w ≡ tallied s id) where
+module _ (s : List ℕ) (id : ℕ) where
   -- a refusal of the list is the call's, whatever is made of the list
   refused_list : (why : Refusal) (o : Outcome (List ℕ)) {B : Type 0} (g : List ℕ → Outcome B) → refused_as why ≡ and_then o (λ ids. done (tally_of id ids))
       → refused_as why ≡ and_then o g
@@ -86,24 +83,24 @@ module _ (s : List ℕ) (id : ℕ) (w : Wa.Walked) (e : walked_of w ≡ tallied 
   tally_list t (done ids) h = (ids, refl, ap (result t) h)
   tally_list t (refused x y) h = absurd (let z : ◌≡◌ {A = ℕ} 0 1 = cc in omega arith)
 
-  pub check_refused : (why : Refusal) → w ≡ Wa.Walked.Refused why → refused_as why ≡ set_check s
+  pub check_refused : (why : Refusal) → refused_as why ≡ tallied s id → refused_as why ≡ set_check s
   unfolding set_check tallied
-  check_refused why h = refused_list why (set_ids s) _ (sym (ap walked_of h) ∙ e)
+  check_refused why e = refused_list why (set_ids s) _ e
 
-  pub check_done : (t : Tally) → w ≡ Wa.Walked.End t → done t.count ≡ set_check s
+  pub check_done : (t : Tally) → done t ≡ tallied s id → done t.count ≡ set_check s
   unfolding set_check tallied and_then
-  check_done t h =
-      let i = tally_list t (set_ids s) (sym (ap walked_of h) ∙ e) in
+  check_done t e =
+      let i = tally_list t (set_ids s) e in
       rw i.1 (ap {B = Outcome ℕ} (λ (x : Tally). done x.count) i.2)
 
-  pub find_refused : (why : Refusal) → w ≡ Wa.Walked.Refused why → id ≤ max_id → refused_as why ≡ set_find s id
+  pub find_refused : (why : Refusal) → refused_as why ≡ tallied s id → id ≤ max_id → refused_as why ≡ set_find s id
   unfolding set_find tallied need
-  find_refused why h k = rw (le-leb id max_id k) (refused_list why (set_ids s) _ (sym (ap walked_of h) ∙ e))
+  find_refused why e k = rw (le-leb id max_id k) (refused_list why (set_ids s) _ e)
 
-  pub find_done : (t : Tally) → w ≡ Wa.Walked.End t → id ≤ max_id → done (cond t.there (member_at t.below) no_member) ≡ set_find s id
+  pub find_done : (t : Tally) → done t ≡ tallied s id → id ≤ max_id → done (cond t.there (member_at t.below) no_member) ≡ set_find s id
   unfolding set_find tallied and_then need member_in
-  find_done t h k =
-      let i = tally_list t (set_ids s) (sym (ap walked_of h) ∙ e) in
+  find_done t e k =
+      let i = tally_list t (set_ids s) e in
       rw (le-leb id max_id k, i.1) (ap {B = Outcome Member} (λ (x : Tally). done (cond x.there (member_at x.below) no_member)) i.2)
 
 pub find_above : (s : List ℕ) (id : ℕ) → max_id < id → refused ID 0 ≡ set_find s id

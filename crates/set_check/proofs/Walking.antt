@@ -1,6 +1,6 @@
 -- The pass over the blocks: a block's ids added to the tally, and the turns of the loop. Assumes nothing.
 use Rattle.format.specs.Kit.{Bool, List, ◌%◌, ◌*◌, ◌++◌, ◌+◌, ◌-◌, ◌/◌, ◌<◌, ◌||◌, ◌∙◌, ◌∷◌, ◌≡◌, ◌≤◌, add-one, add-zero, ap, ap₂, arith, eq-eqb, length}
-use Rattle.format.specs.Kit.{length-append, length-map, ne_eqb, or_assoc, or-false, refl, subst, suc, sym, zero, zero-le, ℕ}
+use Rattle.format.specs.Kit.{length-append, length-map, ne_eqb, or_assoc, or-false, refl, suc, sym, zero, zero-le, ℕ}
 use Rattle.format.specs.Ids.{Run, count_below}
 use Rattle.format.specs.IdsRead.{ids_of}
 use Rattle.format.specs.Pairs.{Below}
@@ -10,14 +10,15 @@ use Rattle.format.specs.SetCalls.{block_from, blocks_from, set_end, set_run}
 use Rattle.format.specs.Walk.{listed}
 use Rattle.laws.proofs.Find.{count_all, count_append, count_length, count_none, count_same, listed_append, listed_not, listed_same}
 use Rattle.laws.proofs.Places.{asc_length}
-use Rattle.set_blocks.specs.Found.{Counted, head_in, head_of, places_of}
+use Rattle.set_blocks.specs.Found.{head_in, places_of}
+use Rattle.set_blocks.specs.Kinds.{kind_number}
+use Rattle.set_blocks.proofs.Steps.{kind_le}
 use Rattle.set_blocks.specs.declared.SetBlock.{SetBlock}
-use Rattle.set_check.specs.Tally.{Added, Full, Sound, halt_of, ids_in, onto, walked_from}
+use Rattle.set_check.specs.Tally.{Added, Full, Sound, ids_in, onto, walked_from}
 use Rattle.set_check.specs.declared.Tally.{Tally}
 use Rattle.set_format.proofs.Data.{fits, held}
 use Rattle.set_format.proofs.Whole.{Block, block_there}
 use Rattle.answers.specs.declared.Refusal.{Refusal}
-use Rattle.set_blocks.specs.declared.Found as Fo
 
 -- ---- the turns
 
@@ -50,7 +51,7 @@ module _ (s : List ℕ) (id : ℕ) where
 
 module _ (s : List ℕ) (u : Below 256 s) (p : SetBlock) (ok : Sound s p) (full : Full s p) (id : ℕ) (t r : Tally) (le : t.below ≤ t.count) where
   inside : Below 65536 (places_of s p)
-  inside = (held s u p.start p.kind p.long ok.kind_is_is ok.long_is ok.data_is).inside
+  inside = (held s u p.start (kind_number p.kind) p.long (kind_le p.kind) ok.long_is ok.data_is).inside
 
   pub added_low : p.block < id / 65536 → r.count ≡ t.count + p.count → r.below ≡ t.below + p.count → r.there ≡ t.there → Added s p id t r
   added_low h a b e =
@@ -98,16 +99,14 @@ pub record Read (s : List ℕ) (next at : ℕ) (b : SetBlock) : Type 0 where
   pub rises : next ≤ b.block
   pub ends : set_end (head_in b) ≤ length s
 
-pub read_block : (s : List ℕ) → Below 256 s → (next at : ℕ) (h : Fo.Found) (b : SetBlock) → h ≡ Fo.Found.Block b → head_of h ≡ block_from next s at
-    → Counted s h → Read s next at b
-read_block s u next at h b is e k =
-    let head : done (head_in b) ≡ block_from next s at = sym (ap head_of is) ∙ e in
+pub read_block : (s : List ℕ) → Below 256 s → (next at : ℕ) (b : SetBlock) → done (head_in b) ≡ block_from next s at
+    → b.count ≡ length (places_of s b) → Read s next at b
+read_block s u next at b head c =
     let its : Block s u next at (head_in b) = block_there s u next at (head_in b) (sym head) in
     let rs = places_of s b in
-    let c : b.count ≡ length rs = subst (Counted s) is k in
     record {
       head_is_is = head;
-      sound = record { kind_is_is = its.kind_is_is; long_is = its.long_is; data_is = its.data_ok };
+      sound = record { long_is = its.long_is; data_is = its.data_ok };
       full =
           record {
             count_is = c;
@@ -115,19 +114,17 @@ read_block s u next at h b is e k =
             number_le = omega (arith, its.high);
           };
       rises = its.low;
-      ends = fits b.start b.kind b.long s its.data_ok;
+      ends = fits b.start (kind_number b.kind) b.long s its.data_ok;
     }
 
 -- ---- the loop's other turns
 
 module _ (s : List ℕ) (id : ℕ) where
-  pub halted : (m next at : ℕ) (t : Tally) (h : Fo.Found) (why : Refusal) → h ≡ Fo.Found.Refused why → head_of h ≡ block_from next s at → zero < m
-      → halt_of h ≡ walked_from s id m next at t
+  pub halted : (m next at : ℕ) (t : Tally) (why : Refusal) → refused_as why ≡ block_from next s at → zero < m
+      → refused_as why ≡ walked_from s id m next at t
   unfolding walked_from blocks_from and_then
-  halted zero next at t h why is e l = absurd (omega arith)
-  halted (suc m) next at t h why is e l =
-      let r : block_from next s at ≡ refused_as why = sym e ∙ ap head_of is in
-      ap halt_of is ∙ sym (rw r refl)
+  halted zero next at t why e l = absurd (omega arith)
+  halted (suc m) next at t why e l = sym (rw (sym e) refl)
 
   pub left_over : (m next at : ℕ) (t : Tally) → m ≡ 0 → (at ≡ length s → ⊥) → refused DAMAGED 0 ≡ walked_from s id m next at t
   unfolding walked_from blocks_from need and_then

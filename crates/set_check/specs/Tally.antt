@@ -1,27 +1,27 @@
 -- What the pass over the blocks tallies. Assumes nothing.
-use Rattle.std.specs.Prelude.{◌≡◌, ◌||◌, ◌+◌, ◌*◌, ◌≤◌}
+use Rattle.std.specs.Prelude.{◌≡◌, ◌||◌, ◌+◌, ◌*◌, ◌≤◌, Ok, Err}
 use Rattle.format.specs.Kit.{true, false, List, map, ℕ, length}
-use Rattle.format.specs.Limits.{block_places, max_block, max_kind}
-use Rattle.format.specs.Refusals.{Outcome, done, refused, and_then, DAMAGED}
+use Rattle.format.specs.Limits.{block_places, max_block}
+use Rattle.format.specs.Refusals.{Outcome, done, and_then}
 use Rattle.answers.specs.Replies.{refused_as}
 use Rattle.format.specs.Ids.{Run, count_below}
 use Rattle.format.specs.IdsRead.{ids_of}
 use Rattle.format.specs.Walk.{listed}
 use Rattle.format.specs.SetCalls.{list_length_ok, set_data_ok, blocks_from, set_ids}
+use Rattle.answers.specs.declared.Refusal.{Refusal}
+use Rattle.set_blocks.specs.Kinds.{kind_number}
 use Rattle.set_blocks.specs.Found.{places_of}
 use Rattle.set_blocks.specs.declared.SetBlock.{SetBlock}
-use Rattle.set_blocks.specs.declared.Found as Fo
 use Rattle.set_check.specs.declared.Place.{Place}
 use Rattle.set_check.specs.declared.Tally.{Tally}
-use Rattle.set_check.specs.declared.Walked as Wa
+use Rattle.std.specs.declared.result.Result.{Result}
 
 -- ---- one block
 
 -- a block that passed its tests
 pub record Sound (s : List ℕ) (b : SetBlock) : Type 0 where
-  pub kind_is_is : b.kind ≤ max_kind
-  pub long_is : list_length_ok b.kind b.long ≡ true
-  pub data_is : set_data_ok b.kind b.long s b.start ≡ true
+  pub long_is : list_length_ok (kind_number b.kind) b.long ≡ true
+  pub data_is : set_data_ok (kind_number b.kind) b.long s b.start ≡ true
 
 -- and has its count
 pub record Full (s : List ℕ) (b : SetBlock) : Type 0 where
@@ -72,11 +72,6 @@ tallied s id = and_then (set_ids s) (λ ids. done (tally_of id ids))
 
 -- ---- the code's answers
 
-abbrev pub walked_of : Wa.Walked → Outcome Tally
-walked_of (Wa.Walked.End t) = done t
-walked_of (Wa.Walked.Refused why) = refused_as why
-
--- why a block was not found; of one that was this says nothing that is used
-abbrev pub halt_of : Fo.Found → Outcome Tally
-halt_of (Fo.Found.Refused why) = refused_as why
-halt_of (Fo.Found.Block b) = refused DAMAGED 0
+abbrev pub walked_of : Result Tally Refusal → Outcome Tally
+walked_of (Ok t) = done t
+walked_of (Err why) = refused_as why

@@ -2,7 +2,7 @@
 // for, and whether it is there. Its time goes by the bytes: the ids of a bitmap, or those that are not missing, are not gone through.
 #![tactic(auto)]
 
-ghost use Rattle.std.specs.Prelude.{◌≡◌, cond, not, ◌||◌, ◌+◌, ◌*◌, ◌/◌, ◌%◌, ◌^◌, ◌≤◌, ◌<◌, ltb, eqb, length, drop};
+ghost use Rattle.std.specs.Prelude.{◌≡◌, not, ◌+◌, ◌*◌, ◌/◌, ◌%◌, ◌^◌, ◌≤◌, ◌<◌, eqb, length, drop};
 ghost use Rattle.std.specs.Int.Count.{ones_in};
 ghost use Rattle.format.specs.Limits.{max_count, block_places, bitmap_bytes, max_blocks};
 ghost use Rattle.format.specs.Bytes.{low_at};
@@ -11,56 +11,31 @@ ghost use Rattle.format.specs.LookUp.{ones_from};
 ghost use Rattle.format.specs.SetCalls.{set_check, set_find};
 ghost use Rattle.answers.specs.Replies.{reply_of, member_of};
 ghost use Rattle.set_blocks.specs.Found.{places_of};
-ghost use Rattle.set_check.specs.Tally.{Sound, Full, Placed, Added, walked_of, halt_of, walked_from, nothing, tallied};
+ghost use Rattle.set_check.specs.Tally.{Sound, Full, Placed, Added, walked_of, walked_from, nothing, tallied};
 
-use answers::{Member, Refusal, Reply};
-use set_blocks::{Found, Numbered, SetBlock};
+use answers::Refusal;
+use set_blocks::{SetBlock, SetKind};
 
-// How many of a block's places are below the one asked for, and whether it is there.
-#[derive(Clone, Copy)]
+// How many of a block's places are below the one asked for, and whether it is there. (No option: both are told of each block.)
+#[derive(Clone, Copy, Debug, PartialEq, Eq)]
 struct Place {
     below: u64,
     there: bool,
 }
 
-// ---- one step of a tally; none of them branches in a loop
-
-fn one_below(x: u64, r: u64) -> u64
-    ensures { (result ≡ cond (ltb x r) 1 0) × (result ≤ 1) }
-{
-    if x < r {
-        return 1;
-    }
-    0
-}
-
-fn either(a: bool, b: bool) -> bool
-    ensures { result ≡ (a || b) }
-{
-    a | b
-}
-
-fn opposite(a: bool) -> bool
-    ensures { result ≡ not a }
-{
-    !a
-}
-
 // ---- one block
 
-// Among c shorts.
+// Among c shorts. The loop has no branch.
 fn list_place(s: &[u8], at: usize, c: usize, r: u64) -> Place
     requires { at + 2 * c ≤ length s.now }
     ensures { Placed r (shorts c (drop at s.now)) result × (result.below ≤ c) }
 {
     let mut below: u64 = 0;
     let mut there = false;
-    let mut i = 0;
-    while i < c {
+    for i in 0..c {
         let x = numbers::short_at(s, at + 2 * i);
-        below += one_below(x, r);
-        there = either(there, x == r);
-        i += 1;
+        below += u64::from(x < r);
+        there |= x == r;
     }
     Place { below, there }
 }
@@ -88,37 +63,29 @@ fn place_in(s: &[u8], block: SetBlock, r: usize) -> Place
     requires { (Sound s.now block) × (r < block_places) }
     ensures { Placed r (places_of s.now block) result × (result.below ≤ block_places + 64) }
 {
-    let kind = block.kind;
     let at = block.start;
-    if kind == SetBlock::BITMAP {
-        return bits_place(s, at, r);
-    }
     let x = numbers::long(r);
-    let p = list_place(s, at, block.long, x);
-    if kind == SetBlock::LISTED {
-        return p;
-    }
-    let there = opposite(p.there);
-    Place {
-        below: x - p.below,
-        there,
+    match block.kind {
+        SetKind::Listed => list_place(s, at, block.long, x),
+        SetKind::Missing => {
+            let p = list_place(s, at, block.long, x);
+            Place {
+                below: x - p.below,
+                there: !p.there,
+            }
+        }
+        SetKind::Bitmap => bits_place(s, at, r),
     }
 }
 
 // ---- the pass over the blocks
 
-// The ids so far, those of them below the id asked for, and whether it is among them.
-#[derive(Clone, Copy)]
+// The ids so far, those of them below the id asked for, and whether it is among them. (No option, as in `Place`.)
+#[derive(Clone, Copy, Debug, PartialEq, Eq)]
 struct Tally {
     count: u64,
     below: u64,
     there: bool,
-}
-
-#[derive(Clone, Copy)]
-enum Walked {
-    End(Tally),
-    Refused(Refusal),
 }
 
 // The tally with one block more.
@@ -148,22 +115,12 @@ fn add_block(s: &[u8], block: SetBlock, id: u32, t: Tally) -> Tally
     Tally {
         count,
         below: t.below + p.below,
-        there: either(there, p.there),
-    }
-}
-
-// Why there is no block.
-fn stopped(h: Found) -> Walked
-    ensures { walked_of result ≡ halt_of h }
-{
-    match h {
-        Found::Refused(why) => Walked::Refused(why),
-        Found::Block(_) => Walked::Refused(Refusal::Damaged),
+        there: there | p.there,
     }
 }
 
 // The blocks, so many of them from a place on.
-fn walk_blocks(s: &[u8], from: usize, blocks: u64, id: u32) -> Walked
+fn walk_blocks(s: &[u8], from: usize, blocks: u64, id: u32) -> Result<Tally, Refusal>
     requires { blocks ≤ max_blocks }
     ensures { walked_of result ≡ walked_from s.now id blocks 0 from nothing }
 {
@@ -177,66 +134,46 @@ fn walk_blocks(s: &[u8], from: usize, blocks: u64, id: u32) -> Walked
         there: false,
     };
     while left > 0 {
-        let h = set_blocks::block_from(s, at, least);
-        let Found::Block(block) = h else {
-            return stopped(h);
-        };
+        let block = set_blocks::block_from(s, at, least)?;
         t = add_block(s, block, id, t);
         at = block.start + set_blocks::data_bytes(block.kind, block.long);
         least = block.block + 1;
         left -= 1;
     }
     if at != n {
-        return Walked::Refused(Refusal::Damaged);
+        return Err(Refusal::Damaged);
     }
-    Walked::End(t)
+    Ok(t)
 }
 
 // The whole: the number of blocks, then the blocks.
-fn walk(s: &[u8], id: u32) -> Walked
+fn walk(s: &[u8], id: u32) -> Result<Tally, Refusal>
     ensures { walked_of result ≡ tallied s.now id }
 {
-    let n = set_blocks::number_at(s, 0);
-    match n {
-        Numbered::Refused(why) => Walked::Refused(why),
-        Numbered::Is { value, next } => {
-            if value > limits::MAX_BLOCKS {
-                return Walked::Refused(Refusal::Damaged);
-            }
-            walk_blocks(s, next, value, id)
-        }
+    let number = column::number_at(s, 0)?;
+    if number.value > limits::MAX_BLOCKS {
+        return Err(Refusal::Damaged);
     }
+    walk_blocks(s, number.next, number.value, id)
 }
 
 // ---- the calls
 
 // Refusals 7, 8 and 13 by the first fault in byte order; success hands back the number of ids.
-pub fn check(s: &[u8]) -> Reply
+pub fn check(s: &[u8]) -> Result<u64, Refusal>
     ensures { reply_of result ≡ set_check s.now }
 {
-    let w = walk(s, 0);
-    match w {
-        Walked::Refused(why) => Reply::Refused(why),
-        Walked::End(t) => Reply::Done(t.count),
-    }
+    let t = walk(s, 0)?;
+    Ok(t.count)
 }
 
 // Membership: refusal 14, then as the check; found with its ordinal, or absent.
-pub fn find(s: &[u8], id: u32) -> Member
+pub fn find(s: &[u8], id: u32) -> Result<Option<u64>, Refusal>
     ensures { member_of result ≡ set_find s.now id }
 {
     if !column::id_ok(id) {
-        return Member::Refused(Refusal::Id);
+        return Err(Refusal::Id);
     }
-    let w = walk(s, id);
-    match w {
-        Walked::Refused(why) => Member::Refused(why),
-        Walked::End(t) => {
-            let there = t.there;
-            if there {
-                return Member::Found(t.below);
-            }
-            Member::Absent
-        }
-    }
+    let t = walk(s, id)?;
+    Ok(t.there.then_some(t.below))
 }

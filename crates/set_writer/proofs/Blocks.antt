@@ -13,10 +13,12 @@ use Rattle.laws.proofs.Digits.{length_digits}
 use Rattle.laws.proofs.Places.{asc_length}
 use Rattle.laws.proofs.Stores.{sets_then}
 use Rattle.set_format.proofs.Missing.{missing_length}
-use Rattle.set_format.proofs.Data.{by_count, kind_listed, kind_missing, kind_bitmap, kind_le, length_shorts_bytes}
+use Rattle.set_format.proofs.Data.{by_count, kind_listed, kind_missing, kind_bitmap, length_shorts_bytes}
 use Rattle.block_writer.specs.Part.{places_from, run_of, bits_of}
 use Rattle.block_writer.proofs.Data.{length_places}
 use Rattle.set_writer.specs.Head.{list_long, head_bytes, HeadOf}
+use Rattle.set_blocks.specs.Kinds.{kind_number}
+use Rattle.set_blocks.specs.declared.SetKind.{SetKind}
 use Rattle.set_writer.specs.declared.Head.{Head}
 
 -- ---- the data, by the kind
@@ -84,17 +86,17 @@ data_long (suc (suc t)) rs = sym (length_digits 256 8192 (bitmap rs))
 -- ---- the three numbers
 
 -- put one after the other
-pub head_put : (h : Head) (out : List ℕ) (at a b : ℕ) → a ≡ at + length (number h.block) → b ≡ a + length (number h.kind)
-    → sets (sets (sets out at (number h.block)) a (number h.kind)) b (number h.long) ≡ sets out at (head_bytes h)
+pub head_put : (h : Head) (out : List ℕ) (at a b : ℕ) → a ≡ at + length (number h.block) → b ≡ a + length (number (kind_number h.kind))
+    → sets (sets (sets out at (number h.block)) a (number (kind_number h.kind))) b (number h.long) ≡ sets out at (head_bytes h)
 head_put h out at a b e f =
     sym
-    (sets_then out at a (number h.block) (number h.kind ++ number h.long) (sym e)
-    ∙ sets_then (sets out at (number h.block)) a b (number h.kind) (number h.long) (sym f))
+    (sets_then out at a (number h.block) (number (kind_number h.kind) ++ number h.long) (sym e)
+    ∙ sets_then (sets out at (number h.block)) a b (number (kind_number h.kind)) (number h.long) (sym f))
 
-pub head_long : (h : Head) → length (head_bytes h) ≡ length (number h.block) + (length (number h.kind) + length (number h.long))
+pub head_long : (h : Head) → length (head_bytes h) ≡ length (number h.block) + (length (number (kind_number h.kind)) + length (number h.long))
 head_long h =
-    length-append (number h.block) (number h.kind ++ number h.long)
-    ∙ ap (λ (n : ℕ). length (number h.block) + n) (length-append (number h.kind) (number h.long))
+    length-append (number h.block) (number (kind_number h.kind) ++ number h.long)
+    ∙ ap (λ (n : ℕ). length (number h.block) + n) (length-append (number (kind_number h.kind)) (number h.long))
 
 -- ---- the ids of one block
 
@@ -106,31 +108,31 @@ module _ (xs : List ℕ) (fine : Fine (run_of xs)) where
   some_id = omega (arith, length_places xs, fine.some_place)
 
   -- its head
-  pub head_is_is : {block kind long : ℕ} → block ≡ get_or xs 0 0 / 65536 → kind ≡ set_kind (length xs) → long ≡ list_long kind (length xs)
+  pub head_is_is : {block : ℕ} {kind : SetKind} {long : ℕ} → block ≡ get_or xs 0 0 / 65536 → kind_number kind ≡ set_kind (length xs)
+      → long ≡ list_long (kind_number kind) (length xs)
       → HeadOf xs (record { block = block; kind = kind; long = long })
   head_is_is {kind = kind} eb ek el =
       record {
         block_is = eb;
         kind_is_is = ek;
         long_is = el;
-        kind_le = omega (arith, ek, kind_le (length xs));
         long_le = omega (arith, el ∙ ap (λ (t : ℕ). list_long t (length xs)) ek, list_most (length xs) few);
       }
 
   module _ (h : Head) (is : HeadOf xs h) where
-    its_list : h.long ≡ length (set_list h.kind (places_from xs 0))
+    its_list : h.long ≡ length (set_list (kind_number h.kind) (places_from xs 0))
     its_list =
-        is.long_is ∙ ap (list_long h.kind) (sym (length_places xs))
-        ∙ list_long_lem h.kind (places_from xs 0) fine.ascending fine.inside
+        is.long_is ∙ ap (list_long (kind_number h.kind)) (sym (length_places xs))
+        ∙ list_long_lem (kind_number h.kind) (places_from xs 0) fine.ascending fine.inside
 
-    pub its_data : set_data_bytes h.kind h.long ≡ length (set_data h.kind (places_from xs 0))
-    its_data = ap (set_data_bytes h.kind) its_list ∙ data_long h.kind (places_from xs 0)
+    pub its_data : set_data_bytes (kind_number h.kind) h.long ≡ length (set_data (kind_number h.kind) (places_from xs 0))
+    its_data = ap (set_data_bytes (kind_number h.kind)) its_list ∙ data_long (kind_number h.kind) (places_from xs 0)
 
-    pub its_bytes : set_block (run_of xs) ≡ head_bytes h ++ set_data h.kind (places_from xs 0)
+    pub its_bytes : set_block (run_of xs) ≡ head_bytes h ++ set_data (kind_number h.kind) (places_from xs 0)
     unfolding set_block set_block_as
     its_bytes =
-        let k : set_kind (length (places_from xs 0)) ≡ h.kind = ap set_kind (length_places xs) ∙ sym is.kind_is_is in
+        let k : set_kind (length (places_from xs 0)) ≡ (kind_number h.kind) = ap set_kind (length_places xs) ∙ sym is.kind_is_is in
         rw (k, ← is.block_is, ← its_list) (simp append_assoc)
 
-    pub its_length : length (set_block (run_of xs)) ≡ length (head_bytes h) + length (set_data h.kind (places_from xs 0))
-    its_length = ap length its_bytes ∙ length-append (head_bytes h) (set_data h.kind (places_from xs 0))
+    pub its_length : length (set_block (run_of xs)) ≡ length (head_bytes h) + length (set_data (kind_number h.kind) (places_from xs 0))
+    its_length = ap length its_bytes ∙ length-append (head_bytes h) (set_data (kind_number h.kind) (places_from xs 0))

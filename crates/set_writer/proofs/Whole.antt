@@ -1,5 +1,5 @@
 -- The blocks and their sizes, the whole, and the writer's answer. Assumes nothing.
-use Rattle.format.specs.Kit.{◌≡◌, refl, sym, ap, ◌∙◌, List, none, some, ℕ, suc, ◌+◌, ◌*◌, ◌<◌, ◌≤◌, arith, length, drop, length-append, sets}
+use Rattle.format.specs.Kit.{◌≡◌, refl, sym, ap, ◌∙◌, List, none, some, ℕ, suc, ◌+◌, ◌*◌, ◌<◌, ◌≤◌, arith, length, length-append, sets}
 use Rattle.format.specs.Refusals.{Outcome, done, refused, need_none, ORDER, RANGE, ROOM}
 use Rattle.format.specs.Bytes.{bytes_of}
 use Rattle.format.specs.HeaderNumbers.{number}
@@ -13,37 +13,36 @@ use Rattle.laws.proofs.Stores.{sets_then, sets_front}
 use Rattle.laws.proofs.Unique.{ordered, ranged}
 use Rattle.set_format.proofs.Demands.{written, no_room}
 use Rattle.block_writer.specs.Part.{run_of}
-use Rattle.section_writer.specs.Good.{Good, part, RunAt}
+use Rattle.section_writer.specs.Good.{Good, Begins}
 use Rattle.section_writer.proofs.Steps.{fine_more, bytes_more, bytes_none, no_runs}
 
--- ---- how many blocks, and how long they are: those before index i
+-- ---- how many blocks, and how long they are: those before the ids left
 
-pub record Planned (ids : List ℕ) (i blocks bytes : ℕ) : Type 0 where
-  pub inside : i ≤ length ids
-  pub fine : AllFine (runs (drop i ids))
-  pub count : blocks + length (runs (drop i ids)) ≡ length (runs ids)
-  pub total : bytes + length (bytes_of set_block (runs (drop i ids))) ≡ length (bytes_of set_block (runs ids))
+pub record Planned (ids left : List ℕ) (blocks bytes : ℕ) : Type 0 where
+  pub fine : AllFine (runs left)
+  pub count : blocks + length (runs left) ≡ length (runs ids)
+  pub total : bytes + length (bytes_of set_block (runs left)) ≡ length (bytes_of set_block (runs ids))
   pub small : bytes ≤ 8222 * blocks
 
-module _ (ids : List ℕ) (good : Good ids) (i blocks bytes : ℕ) (p : Planned ids i blocks bytes) where
+module _ {ids left : List ℕ} {blocks bytes : ℕ} (good : Good ids) (p : Planned ids left blocks bytes) where
   pub few : blocks ≤ 32766
   few = omega (arith, p.count, blocks_few (runs ids) good.fine good.asc)
 
-  pub planned_more : (j n : ℕ) → RunAt ids i j → n ≡ length (set_block (run_of (part i j ids))) → n ≤ 8222 → Planned ids j (blocks + 1) (bytes + n)
-  planned_more j n r e k =
-      let m : length (runs (drop i ids)) ≡ suc (length (runs (drop j ids))) = ap length r.first in
-      let l = ap length (bytes_more r set_block) ∙ length-append (set_block (run_of (part i j ids))) (bytes_of set_block (runs (drop j ids))) in
+  pub planned_more : {run rest : List ℕ} {n : ℕ} → Begins left run rest → n ≡ length (set_block (run_of run)) → n ≤ 8222
+      → Planned ids rest (blocks + 1) (bytes + n)
+  planned_more {run} {rest} r e k =
+      let m : length (runs left) ≡ suc (length (runs rest)) = ap length r.first in
+      let l = ap length (bytes_more r set_block) ∙ length-append (set_block (run_of run)) (bytes_of set_block (runs rest)) in
       record {
-        inside = r.inside;
         fine = (fine_more r p.fine).1;
         count = omega (arith, p.count, m);
         total = omega (arith, p.total, l);
         small = omega (arith, p.small);
       }
 
-  pub planned_all : length ids ≤ i → (blocks ≡ length (runs ids)) × (bytes ≡ length (bytes_of set_block (runs ids)))
+  pub planned_all : length left ≡ 0 → (blocks ≡ length (runs ids)) × (bytes ≡ length (bytes_of set_block (runs ids)))
   planned_all h =
-      (omega (arith, p.count, ap length (no_runs ids i h)), omega (arith, p.total, ap length (bytes_none set_block ids i h)))
+      (omega (arith, p.count, ap length (no_runs left h)), omega (arith, p.total, ap length (bytes_none set_block left h)))
 
 -- ---- the whole
 

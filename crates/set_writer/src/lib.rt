@@ -3,7 +3,7 @@
 
 ghost use Rattle.std.specs.Prelude.{◌≡◌, ◌+◌, ◌*◌, ◌≤◌, length};
 ghost use Rattle.std.proofs.lemmas.List.Edits.{sets};
-ghost use Rattle.format.specs.Limits.{block_places, max_blocks, max_kind};
+ghost use Rattle.format.specs.Limits.{block_places, max_blocks};
 ghost use Rattle.format.specs.Bytes.{low, bytes_of, count_from};
 ghost use Rattle.format.specs.Ids.{runs};
 ghost use Rattle.format.specs.Runs.{Fine};
@@ -12,12 +12,13 @@ ghost use Rattle.format.specs.SetBytes.{missing, set_data, set_block, set_bytes,
 ghost use Rattle.answers.specs.Replies.{reply_of};
 ghost use Rattle.block_writer.specs.Part.{places_from, run_of, From};
 ghost use Rattle.section_writer.specs.Good.{Good};
+ghost use Rattle.set_blocks.specs.Kinds.{kind_number};
 ghost use Rattle.set_writer.specs.Head.{list_long, head_bytes, HeadOf};
 
-use answers::{Refusal, Reply};
+use answers::Refusal;
 use blocks::Block;
-use set_blocks::SetBlock;
-use writer::Fault;
+use section_writer::Runs;
+use set_blocks::SetKind;
 
 // ---- a block's data
 
@@ -26,11 +27,8 @@ fn put_span(out: &mut [u8], at: usize, x: usize, n: usize)
     requires { (at + 2 * n ≤ length out.old) × (x + n ≤ block_places) }
     ensures { out.new ≡ sets out.old at (bytes_of (low 2) (count_from n x)) }
 {
-    let mut i = 0;
-    while i < n {
-        let y = numbers::long(x + i);
-        numbers::put_short(out, at + 2 * i, y);
-        i += 1;
+    for i in 0..n {
+        numbers::put_short(out, at + 2 * i, numbers::long(x + i));
     }
 }
 
@@ -41,56 +39,49 @@ fn put_missing(part: &[u32], out: &mut [u8], at: usize)
 {
     let mut x: usize = 0;
     let mut i = at;
-    let mut j = 0;
-    while j < part.len() {
-        let y = blocks::place_of(part[j]);
+    for id in part {
+        let y = blocks::place_of(*id);
         let n = y - x;
         put_span(out, i, x, n);
         i += 2 * n;
         x = y + 1;
-        j += 1;
     }
     let n = Block::PLACES - x;
     put_span(out, i, x, n);
 }
 
-fn put_data(part: &[u32], out: &mut [u8], at: usize, kind: u64)
-    requires { (From part.now 0 0) × (kind ≤ max_kind) × (at + length (set_data kind (places_from part.now 0)) ≤ length out.old) }
-    ensures { out.new ≡ sets out.old at (set_data kind (places_from part.now 0)) }
+fn put_data(part: &[u32], out: &mut [u8], at: usize, kind: SetKind)
+    requires { (From part.now 0 0)
+        × (at + length (set_data (kind_number kind) (places_from part.now 0)) ≤ length out.old) }
+    ensures { out.new ≡ sets out.old at (set_data (kind_number kind) (places_from part.now 0)) }
 {
-    if kind == SetBlock::LISTED {
-        block_writer::put_sparse(part, out, at);
-        return;
+    match kind {
+        SetKind::Listed => block_writer::put_sparse(part, out, at),
+        SetKind::Missing => put_missing(part, out, at),
+        SetKind::Bitmap => block_writer::put_dense(part, 0, out, at),
     }
-    if kind == SetBlock::MISSING {
-        put_missing(part, out, at);
-        return;
-    }
-    block_writer::put_dense(part, 0, out, at);
 }
 
 // ---- a block
 
 // A block's number, its kind and the length of its list.
-#[derive(Clone, Copy)]
+#[derive(Clone, Copy, Debug, PartialEq, Eq)]
 struct Head {
     block: u64,
-    kind: u64,
+    kind: SetKind,
     long: usize,
 }
 
 // The length of the list of a block of n ids.
-fn list_len(kind: u64, n: usize) -> usize
-    requires { (kind ≤ max_kind) × (n ≤ block_places) }
-    ensures { result ≡ list_long kind n }
+fn list_len(kind: SetKind, n: usize) -> usize
+    requires { n ≤ block_places }
+    ensures { result ≡ list_long (kind_number kind) n }
 {
-    if kind == SetBlock::LISTED {
-        return n;
+    match kind {
+        SetKind::Listed => n,
+        SetKind::Missing => Block::PLACES - n,
+        SetKind::Bitmap => 0,
     }
-    if kind == SetBlock::MISSING {
-        return Block::PLACES - n;
-    }
-    0
 }
 
 // The three numbers of the block that the ids of one block make.
@@ -114,7 +105,7 @@ fn put_head(out: &mut [u8], at: usize, h: Head) -> usize
     ensures { (out.new ≡ sets out.old at (head_bytes h)) × (result ≡ at + length (head_bytes h)) }
 {
     let a = header_numbers::put_number(out, at, h.block);
-    let b = header_numbers::put_number(out, a, h.kind);
+    let b = header_numbers::put_number(out, a, h.kind.number());
     header_numbers::put_number(out, b, numbers::long(h.long))
 }
 
@@ -136,7 +127,7 @@ fn block_len(part: &[u32]) -> usize
     let h = head_of(part);
     let d = set_blocks::data_bytes(h.kind, h.long);
     let first = header_numbers::number_len(h.block);
-    let second = header_numbers::number_len(h.kind);
+    let second = header_numbers::number_len(h.kind.number());
     let third = header_numbers::number_len(numbers::long(h.long));
     first + second + third + d
 }
@@ -147,19 +138,15 @@ fn put_blocks(ids: &[u32], out: &mut [u8], at: usize)
     requires { (Good ids.now) × (at + length (bytes_of set_block (runs ids.now)) ≤ length out.old) }
     ensures { out.new ≡ sets out.old at (bytes_of set_block (runs ids.now)) }
 {
-    let mut i = 0;
     let mut pos = at;
-    while i < ids.len() {
-        let j = section_writer::run_end(ids, i);
-        let n = block_len(&ids[i..j]);
-        put_block(&ids[i..j], out, pos);
-        pos += n;
-        i = j;
+    for run in (Runs { rest: ids }) {
+        put_block(run, out, pos);
+        pos += block_len(run);
     }
 }
 
 // How many blocks there are, and their bytes.
-#[derive(Clone, Copy)]
+#[derive(Clone, Copy, Debug, PartialEq, Eq)]
 struct Sizes {
     blocks: u64,
     bytes: usize,
@@ -170,14 +157,11 @@ fn plan(ids: &[u32]) -> Sizes
     ensures { (result.blocks ≡ length (runs ids.now)) × (result.bytes ≡ length (bytes_of set_block (runs ids.now)))
         × (result.blocks ≤ max_blocks) × (result.bytes ≤ 269402052) }
 {
-    let mut i = 0;
     let mut blocks: u64 = 0;
     let mut bytes: usize = 0;
-    while i < ids.len() {
-        let j = section_writer::run_end(ids, i);
-        bytes += block_len(&ids[i..j]);
+    for run in (Runs { rest: ids }) {
+        bytes += block_len(run);
         blocks += 1;
-        i = j;
     }
     Sizes { blocks, bytes }
 }
@@ -192,23 +176,21 @@ fn put_set(ids: &[u32], out: &mut [u8], blocks: u64)
 }
 
 // Refusals 3, 4 and 6 in order, each over the whole input before the next. Success hands back the byte count.
-pub fn write(ids: &[u32], out: &mut [u8]) -> Reply
+pub fn write(ids: &[u32], out: &mut [u8]) -> Result<u64, Refusal>
     ensures replies { reply_of result ≡ write_reply (set_write ids.now (length out.old)) }
     ensures written { out.new ≡ write_out (set_write ids.now (length out.old)) out.old }
 {
-    let order = writer::order_fault(ids);
-    if let Fault::At(i) = order {
-        return Reply::Refused(Refusal::Order(numbers::long(i)));
+    if let Some(i) = writer::order_fault(ids) {
+        return Err(Refusal::Order(numbers::long(i)));
     }
-    let range = writer::range_fault(ids);
-    if let Fault::At(i) = range {
-        return Reply::Refused(Refusal::Range(numbers::long(i)));
+    if let Some(i) = writer::range_fault(ids) {
+        return Err(Refusal::Range(numbers::long(i)));
     }
     let sizes = plan(ids);
     let total = header_numbers::number_len(sizes.blocks) + sizes.bytes;
     if total > out.len() {
-        return Reply::Refused(Refusal::Room(numbers::long(total)));
+        return Err(Refusal::Room(numbers::long(total)));
     }
     put_set(ids, out, sizes.blocks);
-    Reply::Done(numbers::long(total))
+    Ok(numbers::long(total))
 }

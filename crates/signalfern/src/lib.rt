@@ -30,16 +30,20 @@ ghost use Rattle.column.specs.Opened.{column_of};
 ghost use Rattle.layered.specs.Answers.{layered_of, words_in, part_of};
 ghost use Rattle.layered.specs.Answers.{layered_reply_of, layered_readout_of};
 
-use answers::{
-    Answer, Between, ByteOrder, Candidate, Cursor, Judgement, Member, Next, Readout, Reply,
-};
+use answers::{ByteOrder, Cursor, Look, Next, Pair, Readout, Refusal, Rejection};
 use column::Column;
-use layered::{Layered, LayeredReadout, LayeredReply, Part};
+use layered::{LayerRefusal, LayeredLook, LayeredWords, Part};
 
 // Writes the column of the pairs (ids, values) in edition 1 to 4, by its number, at rank power `power` into `out` and hands back its byte
 // count. Refusals 1, 9, 2 to 4 and 6 in order, each over the whole input before the next; a refusal changes nothing, and success exactly
 // the column's bytes. Told edition 4 it plans for itself (document 02, [12]): edition 1, if no table makes the column shorter.
-pub fn write(ids: &[u32], values: &[i64], edition: u32, power: u32, out: &mut [u8]) -> Reply
+pub fn write(
+    ids: &[u32],
+    values: &[i64],
+    edition: u32,
+    power: u32,
+    out: &mut [u8],
+) -> Result<u64, Refusal>
     ensures replies { reply_of result ≡ write_reply (write edition power ids.now values.now (length out.old)) }
     ensures written { out.new
         ≡ write_out (write edition power ids.now values.now (length out.old)) out.old }
@@ -55,7 +59,7 @@ pub fn write_planned(
     table: &[i64],
     power: u32,
     out: &mut [u8],
-) -> Reply
+) -> Result<u64, Refusal>
     ensures replies { reply_of result ≡ write_reply (write_planned power ids.now values.now table.now (length out.old)) }
     ensures written { out.new
         ≡ write_out (write_planned power ids.now values.now table.now (length out.old)) out.old }
@@ -65,7 +69,7 @@ pub fn write_planned(
 
 // Proposes a plan for the values into the first places of `table`: a table wherever the small check takes one, else plain. Hands back how many
 // entries, 0 for plain; 12 with 256 where `table` has fewer places. Nobody need trust it: `write_planned` checks what it is given.
-pub fn plan(values: &[i64], table: &mut [i64]) -> Reply
+pub fn plan(values: &[i64], table: &mut [i64]) -> Result<u64, Refusal>
     ensures replies { reply_of result ≡ write_reply (plan values.now (length table.old)) }
     ensures proposed { table.new ≡ write_out (plan values.now (length table.old)) table.old }
 {
@@ -73,7 +77,7 @@ pub fn plan(values: &[i64], table: &mut [i64]) -> Reply
 }
 
 // Checks that the bytes are the column of some pair list, and hands back its n. Refusals 7 to 11, then 13.
-pub fn check(bytes: &[u8]) -> Reply
+pub fn check(bytes: &[u8]) -> Result<u64, Refusal>
     ensures { reply_of result ≡ check editions bytes.now }
 {
     checking::check(bytes)
@@ -81,7 +85,7 @@ pub fn check(bytes: &[u8]) -> Reply
 
 // Reads a column's ids and values into the first n places of each buffer, and hands back n. Refusals 7 to 11, 12, 13; all is
 // verified before a place is written, and a refusal changes nothing.
-pub fn read(bytes: &[u8], ids: &mut [u32], values: &mut [i64]) -> Reply
+pub fn read(bytes: &[u8], ids: &mut [u32], values: &mut [i64]) -> Result<u64, Refusal>
     ensures replies { reply_of result ≡ read_reply (reading editions bytes.now (length ids.old) (length values.old)) }
     ensures ids_filled { ids.new
         ≡ ids_after (reading editions bytes.now (length ids.old) (length values.old)) ids.old }
@@ -93,7 +97,7 @@ pub fn read(bytes: &[u8], ids: &mut [u32], values: &mut [i64]) -> Reply
 
 // Looks one id up by jump entries and ranks: refusals 14, 7 to 11, 15. It reads the header, one jump entry, one block head, at most
 // 12 entries or one stride of words (or one block's, without ranks) and one value. The answer tells the words and the entries probed.
-pub fn look_up(bytes: &[u8], id: u32) -> Answer
+pub fn look_up(bytes: &[u8], id: u32) -> Result<Look, Refusal>
     ensures answers { answer_of result ≡ look_up editions bytes.now id }
     ensures words { (c : Opened) → open_column editions bytes.now ≡ done c → FewWords c.head.power (answer_of result) }
     ensures probes { Probed (look_up_probes editions bytes.now id) result }
@@ -103,7 +107,7 @@ pub fn look_up(bytes: &[u8], id: u32) -> Answer
 
 // The same from a column that `Column::open` gave for these bytes, without reading the header again. Any other numbers in its place
 // are safe: 14, then 10 where they break a header rule, 11 where they do not fit these bytes, then 15.
-pub fn look_up_in(column: Column, bytes: &[u8], id: u32) -> Answer
+pub fn look_up_in(column: Column, bytes: &[u8], id: u32) -> Result<Look, Refusal>
     ensures answers { answer_of result ≡ look_up_in bytes.now (column_of column) id }
     ensures words { FewWords column.head.power (answer_of result) }
     ensures probes { Probed (step_probes bytes.now (column_of column) id) result }
@@ -120,7 +124,7 @@ pub fn look_up_page(
     ordinals: &mut [u64],
     values: &mut [i64],
     kinds: &mut [u8],
-) -> Reply
+) -> Result<u64, Refusal>
     ensures replies { reply_of result
         ≡ page_reply (page editions bytes.now ids.now (length ordinals.old) (length values.old)
         (length kinds.old)) }
@@ -160,7 +164,12 @@ pub fn next_in(column: Column, cursor: Cursor, bytes: &[u8], target: u32) -> Nex
 // for `id`, then for the id after that one, and so on, as many as both lists have places; the places after them stay as they were. `Ended`:
 // no listed id is left; `More`: go on from the last id + 1. Refused only where the very first candidate is, with room for it or not: 14, 7 to
 // 11, 15; a refusal changes nothing.
-pub fn read_from(bytes: &[u8], id: u32, ids: &mut [u32], values: &mut [i64]) -> Readout
+pub fn read_from(
+    bytes: &[u8],
+    id: u32,
+    ids: &mut [u32],
+    values: &mut [i64],
+) -> Result<Readout, Refusal>
     ensures replies { readout_of result ≡ readout_reply (read_from editions bytes.now id (min (length ids.old) (length values.old))) }
     ensures ids_placed { ids.new
         ≡ readout_after (λ w. w.ids) (read_from editions bytes.now id (min (length ids.old) (length values.old)))
@@ -180,7 +189,7 @@ pub fn read_from_in(
     id: u32,
     ids: &mut [u32],
     values: &mut [i64],
-) -> Readout
+) -> Result<Readout, Refusal>
     ensures replies { readout_of result
         ≡ readout_reply (read_from_in bytes.now (column_of column) id (min (length ids.old) (length values.old))) }
     ensures ids_placed { ids.new
@@ -196,7 +205,7 @@ pub fn read_from_in(
 // The pair with an ordinal (no request of document 02: docs/DECISIONS.md): its id and its value, or that there is none, for an ordinal of n or
 // more. Refusals 7 to 11, then 15. It reads the header, up to 15 jump entries, one block head, one entry, or up to 9 ranks and a stride's
 // words (a block's, without ranks), and one value.
-pub fn pair_at(bytes: &[u8], ordinal: u64) -> Candidate
+pub fn pair_at(bytes: &[u8], ordinal: u64) -> Result<Option<Pair>, Refusal>
     ensures { candidate_of result ≡ pair_at editions bytes.now ordinal }
 {
     pair_at::pair_at(bytes, ordinal)
@@ -204,7 +213,7 @@ pub fn pair_at(bytes: &[u8], ordinal: u64) -> Candidate
 
 // The same from a column that `Column::open` gave for these bytes, without reading the header again. Any other numbers in its place are safe:
 // 10 where they break a header rule, 11 where they do not fit these bytes, then 15.
-pub fn pair_at_in(column: Column, bytes: &[u8], ordinal: u64) -> Candidate
+pub fn pair_at_in(column: Column, bytes: &[u8], ordinal: u64) -> Result<Option<Pair>, Refusal>
     ensures { candidate_of result ≡ pair_at_in bytes.now (column_of column) ordinal }
 {
     pair_at::pair_at_in(column, bytes, ordinal)
@@ -213,7 +222,7 @@ pub fn pair_at_in(column: Column, bytes: &[u8], ordinal: u64) -> Candidate
 // The first ordinal with a value from `low` to `high`, or that there is none, in a column of edition 3 (document 02, [11]). Refusals 7 to
 // 11, of which 9 for any other edition, then 15; low above high gives none. A run of values whose summary shows that it holds none is not
 // read.
-pub fn first_between(bytes: &[u8], low: i64, high: i64) -> Between
+pub fn first_between(bytes: &[u8], low: i64, high: i64) -> Result<Option<u64>, Refusal>
     ensures { between_of result ≡ first_between bytes.now low high }
 {
     between::first_between(bytes, low, high)
@@ -221,7 +230,12 @@ pub fn first_between(bytes: &[u8], low: i64, high: i64) -> Between
 
 // The same from a column that `Column::open` gave for these bytes, without reading the header again. Any other numbers in its place are
 // safe: 9 for another edition, 10 where they break a header rule, 11 where they do not fit these bytes, then 15.
-pub fn first_between_in(column: Column, bytes: &[u8], low: i64, high: i64) -> Between
+pub fn first_between_in(
+    column: Column,
+    bytes: &[u8],
+    low: i64,
+    high: i64,
+) -> Result<Option<u64>, Refusal>
     ensures { between_of result ≡ first_between_in bytes.now (column_of column) low high }
 {
     between::first_between_in(column, bytes, low, high)
@@ -229,7 +243,12 @@ pub fn first_between_in(column: Column, bytes: &[u8], low: i64, high: i64) -> Be
 
 // The same question above an answer (no request of document 02: docs/DECISIONS.md): the first ordinal from `from` on with such a value, so that
 // all of them can be listed. None for an ordinal of n or more; else as `first_between`, which is this from 0 on.
-pub fn first_between_from(bytes: &[u8], from: u64, low: i64, high: i64) -> Between
+pub fn first_between_from(
+    bytes: &[u8],
+    from: u64,
+    low: i64,
+    high: i64,
+) -> Result<Option<u64>, Refusal>
     ensures { between_of result ≡ first_between_from bytes.now from low high }
 {
     between::first_between_from(bytes, from, low, high)
@@ -242,7 +261,7 @@ pub fn first_between_from_in(
     from: u64,
     low: i64,
     high: i64,
-) -> Between
+) -> Result<Option<u64>, Refusal>
     ensures { between_of result ≡ first_between_from_in bytes.now (column_of column) from low high }
 {
     between::first_between_from_in(column, bytes, from, low, high)
@@ -253,7 +272,11 @@ pub fn first_between_from_in(
 // Looks one id up in both and prefers the correction. Found and refused name their column, and the ordinal is the one there; words
 // are told for each column apart, and are no more than its own rank power allows. A refusal by the correction refuses the call; an id
 // absent there is looked up in the machine column, which is not opened before.
-pub fn look_up_layered(machine: &[u8], correction: &[u8], id: u32) -> Layered
+pub fn look_up_layered(
+    machine: &[u8],
+    correction: &[u8],
+    id: u32,
+) -> Result<LayeredLook, LayerRefusal>
     ensures answers { layered_of result ≡ look_up_layered editions machine.now correction.now id }
     ensures words { (layer : Layer) (c : Opened) → open_column editions (of_layer machine.now correction.now layer) ≡ done c
         → words_in layer result ≤ stride_words c.head.power }
@@ -268,7 +291,7 @@ pub fn look_up_layered_in(
     correction_column: Column,
     correction: &[u8],
     id: u32,
-) -> Layered
+) -> Result<LayeredLook, LayerRefusal>
     ensures answers { layered_of result
         ≡ look_up_layered_in machine.now (column_of machine_column) correction.now (column_of correction_column) id }
     ensures words { (layer : Layer) → words_in layer result ≤ stride_words (of_layer (column_of machine_column) (column_of correction_column) layer).head.power }
@@ -303,7 +326,7 @@ pub fn look_up_layered_page(
     values: &mut [i64],
     kinds: &mut [u8],
     columns: &mut [u8],
-) -> LayeredReply
+) -> Result<LayeredWords, Refusal>
     ensures replies { layered_reply_of result
         ≡ layered_reply
         (layered_page editions machine.now correction.now ids.now (length ordinals.old)
@@ -343,7 +366,7 @@ pub fn look_up_layered_page_in(
     values: &mut [i64],
     kinds: &mut [u8],
     columns: &mut [u8],
-) -> LayeredReply
+) -> Result<LayeredWords, Refusal>
     ensures replies { layered_reply_of result
         ≡ layered_reply
         (layered_page_in machine.now (column_of machine_column) correction.now (column_of correction_column) ids.now
@@ -394,7 +417,7 @@ pub fn read_layered_from(
     ids: &mut [u32],
     values: &mut [i64],
     columns: &mut [u8],
-) -> LayeredReadout
+) -> Result<Readout, LayerRefusal>
     ensures replies { layered_readout_of result
         ≡ layered_read_reply (read_layered editions machine.now correction.now id
         (min (length columns.old) (min (length ids.old) (length values.old)))) }
@@ -422,7 +445,7 @@ pub fn read_layered_from_in(
     ids: &mut [u32],
     values: &mut [i64],
     columns: &mut [u8],
-) -> LayeredReadout
+) -> Result<Readout, LayerRefusal>
     ensures replies { layered_readout_of result
         ≡ layered_read_reply (read_layered_in machine.now (column_of machine_column) correction.now (column_of correction_column) id
         (min (length columns.old) (min (length ids.old) (length values.old)))) }
@@ -455,7 +478,7 @@ pub fn read_layered_from_in(
 
 // Writes the set of the ids into `out` and hands back its byte count. Refusals 3, 4 and 6 in order, each over the whole input before the
 // next; a refusal changes nothing, and success exactly the set's bytes.
-pub fn set_write(ids: &[u32], out: &mut [u8]) -> Reply
+pub fn set_write(ids: &[u32], out: &mut [u8]) -> Result<u64, Refusal>
     ensures replies { reply_of result ≡ write_reply (set_write ids.now (length out.old)) }
     ensures written { out.new ≡ write_out (set_write ids.now (length out.old)) out.old }
 {
@@ -464,14 +487,14 @@ pub fn set_write(ids: &[u32], out: &mut [u8]) -> Reply
 
 // Checks that the bytes are the set of some id list, and hands back how many ids it has. The first fault in byte order decides: 7 and 8
 // for a number that is none, 13 for all else. The time goes by the bytes, not by the ids.
-pub fn set_check(bytes: &[u8]) -> Reply
+pub fn set_check(bytes: &[u8]) -> Result<u64, Refusal>
     ensures { reply_of result ≡ set_check bytes.now }
 {
     set_check::check(bytes)
 }
 
 // Whether an id is in the set, and its ordinal there: refusal 14, then as the check.
-pub fn set_find(bytes: &[u8], id: u32) -> Member
+pub fn set_find(bytes: &[u8], id: u32) -> Result<Option<u64>, Refusal>
     ensures { member_of result ≡ set_find bytes.now id }
 {
     set_check::find(bytes, id)
@@ -482,7 +505,12 @@ pub fn set_find(bytes: &[u8], id: u32) -> Member
 // Judges a bare id section, without a header of ours, by its bytes, its number of jump entries, its rank power and its byte order: accepted
 // with the number of ids, or the first fault with its reason and its place. A power or an entry count outside document 01's limits is told
 // before a byte is read.
-pub fn judge_section(bytes: &[u8], jump_count: u64, power: u64, order: ByteOrder) -> Judgement
+pub fn judge_section(
+    bytes: &[u8],
+    jump_count: u64,
+    power: u64,
+    order: ByteOrder,
+) -> Result<u64, Rejection>
     ensures { judgement_of result ≡ judge_section (order_of order) power jump_count bytes.now }
 {
     checking::section::judge_section(bytes, jump_count, power, order)

@@ -1,3 +1,2 @@
--- Laws of the biased form, and what the machine reads back from a signed number's bits.
+-- Laws of the biased form, and the bits of a signed number.
 pub mod Signs
-pub mod Machine

@@ -1,10 +1,11 @@
 -- Laws of the biased form: it is another way to write a signed number of 64 bits; order, differences and sums are the same in it.
 -- Assumes nothing.
-use Rattle.format.specs.Kit.{◌≡◌, ap, ◌∙◌, not, ℕ, zero, suc, ◌+◌, ◌-◌, ◌^◌, ◌<◌, ◌≤◌, add-sub_cancel_left, arith, dec_lt, lt-ltb, le-ltb, T, leb→le}
+use Rattle.format.specs.Kit.{◌≡◌, refl, ap, ◌∙◌, not, ℕ, zero, suc, ◌+◌, ◌-◌, ◌^◌, ◌<◌, ◌≤◌, add-sub_cancel_left, arith, dec_lt, lt-ltb, le-ltb, T, leb→le}
 use Rattle.format.specs.Kit.{nleb→lt, ℤ, pos, negsuc, sub_ℕ, ◌+ℤ◌, mag, le_z}
 use mir.Syntax.{w64}
 use mir.Val.{to_z, of_z}
 use mir.Facts.{to_z-of_z}
+use Rattle.format.specs.Bytes.{twos}
 use Rattle.format.specs.Values.{over}
 use Rattle.signed.specs.Sign.{biased, unbiased}
 
@@ -69,6 +70,12 @@ biased_over (negsuc a) (negsuc b) f g h = let k : suc b ≤ suc a = omega arith 
 -- a signed number of 64 bits is what the machine reads back from its bits: a callee's promise on a signed argument speaks of the left side
 pub read_back : (z : ℤ) → mag z < 2 ^ 63 → to_z w64 (of_z w64 z) ≡ z
 read_back z h = to_z-of_z {w = w64} (record { sfits = h })
+
+-- the machine's bits of a signed number are its two's complement
+pub bits_twos : (z : ℤ) → of_z w64 z ≡ twos z
+unfolding twos
+bits_twos (pos n) = refl
+bits_twos (negsuc n) = refl
 
 -- a number added to a signed one is added to its biased form: it stays a number of 64 bits exactly where the form stays below 2^64
 pub biased-+ : (z : ℤ) (p : ℕ) → mag z < 2 ^ 63 → biased z + p < 2 ^ 64 → (mag (z +ℤ pos p) < 2 ^ 63) × (biased (z +ℤ pos p) ≡ biased z + p)

@@ -1,4 +1,4 @@
-// Signed numbers as numbers without sign. `biased` and `unbiased` alone compute with signed numbers.
+// Signed numbers as numbers without sign. `unbiased` and `bits_of` alone see a signed number; all else computes without sign.
 #![tactic(auto)]
 
 ghost use Rattle.std.specs.Prelude.{◌≡◌};
@@ -7,30 +7,22 @@ ghost use Rattle.format.specs.HeaderNumbers.{zigzag, unzigzag};
 ghost use Rattle.signed.specs.Sign.{biased, unbiased};
 
 // 2^63, and the greatest signed number.
-const HALF: u64 = 9223372036854775808;
+const HALF: u64 = 1 << 63;
 
-const MOST: u64 = 9223372036854775807;
+const MOST: u64 = HALF - 1;
 
 // v + 2^63.
 pub fn biased(v: i64) -> u64
     ensures { result ≡ biased v }
 {
-    if v < 0 {
-        MOST - (!v as u64)
-    } else {
-        v as u64 + HALF
-    }
+    turned(bits_of(v))
 }
 
 // x - 2^63.
 pub fn unbiased(x: u64) -> i64
     ensures { result ≡ unbiased x }
 {
-    if x < HALF {
-        !((MOST - x) as i64)
-    } else {
-        (x - HALF) as i64
-    }
+    turned(x).cast_signed()
 }
 
 // The biased form of the signed number that a header number stands for.
@@ -59,12 +51,12 @@ pub fn number_of(b: u64) -> u64
 pub fn turned(x: u64) -> u64
     ensures { (result ≡ biased (untwos x)) × (result ≡ twos (unbiased x)) }
 {
-    if x < HALF { x + HALF } else { x - HALF }
+    x.wrapping_add(HALF)
 }
 
 // A signed number in two's complement.
 pub fn bits_of(v: i64) -> u64
     ensures { result ≡ twos v }
 {
-    turned(biased(v))
+    v.cast_unsigned()
 }

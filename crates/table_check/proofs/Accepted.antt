@@ -1,6 +1,6 @@
 -- The tests of edition 4 accept a value section that keeps the header rules exactly if it is the section of its values, and the fields are theirs.
 -- Assumes nothing.
-use Rattle.format.specs.Kit.{◌≡◌, refl, sym, ap, ap₂, ◌∙◌, subst, true, List, [], ◌∷◌, ◌++◌, map, ℕ, ◌+◌, ◌-◌, ◌*◌, ◌^◌, ◌<◌, ◌≤◌, zero-add}
+use Rattle.format.specs.Kit.{◌≡◌, refl, sym, ap, ap₂, ◌∙◌, subst, true, List, [], ◌∷◌, ◌++◌, map, ℕ, ◌-◌, ◌*◌, ◌^◌, ◌<◌, ◌≤◌, zero-add}
 use Rattle.format.specs.Kit.{arith, ltb, ℤ, pos, length, get_or, take, drop, drop_at, take-append-drop, length-drop, length-map}
 use Rattle.format.specs.Limits.{max_count}
 use Rattle.format.specs.Bytes.{bytes_of}

@@ -1,5 +1,5 @@
 -- Codes: each below t, each number below t among them, and marked one after the other. Assumes nothing.
-use Rattle.format.specs.Kit.{◌≡◌, refl, sym, ap, ◌∙◌, true, false, List, [], ◌∷◌, ℕ, zero, suc, ◌+◌, ◌-◌, ◌<◌, ◌≤◌}
+use Rattle.format.specs.Kit.{◌≡◌, refl, sym, ap, ◌∙◌, true, false, List, [], ◌∷◌, ℕ, zero, suc, ◌+◌, ◌<◌, ◌≤◌}
 use Rattle.format.specs.Kit.{add-one, arith, ltb, eqb, length, get_or, drop, drop-cons, drop_of_length-le, set, length-set}
 use Rattle.format.specs.Kit.{lt-ltb, le-ltb, ltb-true, eq-eqb, ne_eqb}
 use Rattle.format.specs.Pairs.{Below}
@@ -64,9 +64,6 @@ pub record Counting (t : ℕ) (cs m₀ m : List ℕ) (i : ℕ) : Type 0 where
   pub inside : i ≤ length cs
   pub asked : below_all t cs ≡ below_all t (drop i cs)
   pub marks : marked m (drop i cs) ≡ marked m₀ cs
-
-pub counting_none : (t : ℕ) (cs m : List ℕ) → Counting t cs m m 0
-counting_none t cs m = record { size = refl; inside = omega arith; asked = refl; marks = refl }
 
 module _ {t : ℕ} {cs m₀ m : List ℕ} {i : ℕ} (g : Counting t cs m₀ m i) (c : ℕ) (more : i < length cs) (is : get_or cs i 0 ≡ c) where
   next : drop i cs ≡ c ∷ drop (i + 1) cs

@@ -18,11 +18,8 @@ fn read_table(table: &mut [i64], section: &[u8], t: usize)
     requires { (t ≤ length table.old) × (8 * t ≤ length section.now) }
     ensures { table.new ≡ entries_from 0 t section.now ++ drop t table.old }
 {
-    let mut i = 0;
-    while i < t {
-        let v = table_values::entry(section, i);
-        table[i] = v;
-        i += 1;
+    for i in 0..t {
+        table[i] = table_values::entry(section, i);
     }
 }
 
@@ -32,10 +29,9 @@ fn mark_codes(marks: &mut [u8], codes: &[u8], w: usize, n: usize, t: usize) -> b
     ensures { (result ≡ below_all t (unpacked w n codes.now))
         × (result ≡ true → marks.new ≡ marked marks.old (unpacked w n codes.now)) }
 {
-    let mut i: usize = 0;
     let mut at: usize = 0;
     let mut skip: usize = 0;
-    while i < n {
+    for i in 0..n {
         let code = packings::next_of(codes, Order::High, w, i, n, at, skip);
         if code >= t as u64 {
             return false;
@@ -45,7 +41,6 @@ fn mark_codes(marks: &mut [u8], codes: &[u8], w: usize, n: usize, t: usize) -> b
         let next = skip + w;
         at += next >> 3;
         skip = next & 7;
-        i += 1;
     }
     true
 }

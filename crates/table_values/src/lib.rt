@@ -17,9 +17,9 @@ ghost use Rattle.answers.specs.Replies.{fields_of, fetched_of};
 ghost use Rattle.table_values.specs.Codes.{code_slot, code_value};
 ghost use Rattle.table_values.specs.Saves.{saves};
 
-use answers::{Fetched, Fields};
+use answers::Fields;
 use packings::Order;
-use scaled_values::{Slot, Slotted};
+use scaled_values::Slot;
 
 // The least width for the last code of t entries.
 pub fn code_width(t: u64) -> u64
@@ -79,11 +79,11 @@ pub fn entry(section: &[u8], k: usize) -> i64
 }
 
 // Step 7: where the code of ordinal i stands, after a table of t entries; nothing stands above a smallest value.
-pub fn slot_at(w: u64, t: u64, i: u64) -> Slotted
+pub fn slot_at(w: u64, t: u64, i: u64) -> Option<Slot>
     requires { t ≤ max_entries }
     ensures { result ≡ code_slot w t i }
 {
-    Slotted::At(Slot {
+    Some(Slot {
         start: 8 * (t as usize),
         width: w as usize,
         index: i as usize,
@@ -92,14 +92,14 @@ pub fn slot_at(w: u64, t: u64, i: u64) -> Slotted
 }
 
 // And the entry at a code, if there is one.
-pub fn value_of(section: &[u8], t: u64, code: u64) -> Fetched
+pub fn value_of(section: &[u8], t: u64, code: u64) -> Option<i64>
     requires { 8 * t ≤ length section.now }
     ensures { fetched_of result ≡ code_value t section.now code }
 {
     if code >= t {
-        return Fetched::Outside;
+        return None;
     }
-    Fetched::Value(entry(section, code as usize))
+    Some(entry(section, code as usize))
 }
 
 // The n values of a section, each of which is there, from the buffer's front on.
@@ -111,17 +111,15 @@ pub fn fill(values: &mut [i64], section: &[u8], n: usize, fields: Fields)
 {
     let w = numbers::size(fields.width);
     let start = 8 * (fields.divisor as usize);
-    let mut i: usize = 0;
     let mut at: usize = 0;
     let mut skip: usize = 0;
-    while i < n {
+    for i in 0..n {
         let code = packings::next_of(&section[start..], Order::High, w, i, n, at, skip);
         let v = entry(section, numbers::size(code));
         values[i] = v;
         let next = skip + w;
         at += next >> 3;
         skip = next & 7;
-        i += 1;
     }
 }
 
@@ -171,21 +169,17 @@ pub fn draw(
     let w = fields.width as usize;
     let start = 8 * (fields.divisor as usize);
     let codes = &section[start..];
-    let mut o = x;
     let mut at = packing::byte_of(x, w);
     let mut skip = packing::skip_of(x, w);
-    let mut i = from;
-    while i < end {
-        let code = packings::next_of(codes, Order::High, w, o, n, at, skip);
-        let Fetched::Value(value) = value_of(section, fields.divisor, code) else {
+    for i in from..end {
+        let code = packings::next_of(codes, Order::High, w, x + (i - from), n, at, skip);
+        let Some(value) = value_of(section, fields.divisor, code) else {
             return i;
         };
         values[i] = value;
-        o += 1;
-        i += 1;
         let next = skip + w;
         at += next >> 3;
         skip = next & 7;
     }
-    i
+    end
 }

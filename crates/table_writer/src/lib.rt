@@ -12,19 +12,16 @@ fn put_entries(out: &mut [u8], table: &[i64])
     requires { 8 * length table.now ≤ length out.old }
     ensures { out.new ≡ sets out.old 0 (bytes_of table_entry table.now) }
 {
-    let mut i = 0;
-    while i < table.len() {
-        let x = signed::turned(signed::biased(table[i]));
-        numbers::put_long(out, 8 * i, x);
-        i += 1;
+    for (i, entry) in table.iter().enumerate() {
+        numbers::put_long(out, 8 * i, signed::bits_of(*entry));
     }
 }
 
-// Writes a code for each value to the front of out.
-fn put_codes_by(out: &mut [u8], guesses: &mut [u8], table: &[i64], values: &[i64])
+// Writes a code for each value to the front of out, with G guesses.
+fn put_codes_by<const G: usize>(out: &mut [u8], table: &[i64], values: &[i64])
     requires { (1 ≤ length table.now) × (length table.now ≤ max_entries) × (ascends table.now ≡ true) × (all_in table.now values.now ≡ true)
-        × (packed_bytes (length values.now) (code_width (length table.now)) ≤ length out.old)
-        × (1 ≤ length guesses.old) × (length guesses.old ≤ 4096) }
+        × (packed_bytes (length values.now) (code_width (length table.now)) ≤ length out.old) × (1 ≤ G)
+        × (G ≤ 4096) }
     ensures { out.new ≡ packed (code_width (length table.now)) (map (code_in table.now) values.now)
         ++ drop (packed_bytes (length values.now) (code_width (length table.now))) out.old }
 {
@@ -34,16 +31,15 @@ fn put_codes_by(out: &mut [u8], guesses: &mut [u8], table: &[i64], values: &[i64
         have: 0,
         acc: 0,
     };
-    let mut i = 0;
-    while i < values.len() {
-        let code = tables::place_of(guesses, table, signed::biased(values[i]));
+    let mut guesses = [0u8; G];
+    for x in values {
+        let code = tables::place_of(&mut guesses, table, signed::biased(*x));
         p = packing::push(out, p, w, numbers::long(code));
-        i += 1;
     }
     packing::finish(out, p);
 }
 
-// The same, with guesses of its own.
+// The same, with as many guesses as so many values are worth.
 fn put_codes(out: &mut [u8], table: &[i64], values: &[i64])
     requires { (1 ≤ length table.now) × (length table.now ≤ max_entries) × (ascends table.now ≡ true) × (all_in table.now values.now ≡ true)
         × (packed_bytes (length values.now) (code_width (length table.now)) ≤ length out.old) }
@@ -51,12 +47,10 @@ fn put_codes(out: &mut [u8], table: &[i64], values: &[i64])
         ++ drop (packed_bytes (length values.now) (code_width (length table.now))) out.old }
 {
     if values.len() < tables::MANY {
-        let mut few = [0u8; tables::FEW_GUESSES];
-        put_codes_by(out, &mut few, table, values);
-        return;
+        put_codes_by::<{ tables::FEW_GUESSES }>(out, table, values);
+    } else {
+        put_codes_by::<{ tables::GUESSES }>(out, table, values);
     }
-    let mut guesses = [0u8; tables::GUESSES];
-    put_codes_by(out, &mut guesses, table, values);
 }
 
 // Writes the value section to the front of out, the part of the output that starts where the section starts. The table ascends and holds every

@@ -1,6 +1,7 @@
 -- A value's place among entries that ascend, by halving; the order of signed numbers by their biased forms. Assumes nothing.
-use Rattle.format.specs.Kit.{◌≡◌, refl, sym, ◌∙◌, Bool, true, false, cond, ◌&&◌, List, [], ◌∷◌, ℕ, zero, suc, ◌+◌, ◌-◌, ◌^◌, ◌<◌, ◌≤◌, add-one, arith}
-use Rattle.format.specs.Kit.{ltb, ℤ, pos, negsuc, mag, lt_z, length, get_or, drop, drop-cons, lt-ltb, le-ltb, ltb-true, ltb-false}
+use Rattle.std.specs.List.{IsAllAdjacentAnswer}
+use Rattle.format.specs.Kit.{◌≡◌, refl, sym, ◌∙◌, Bool, true, false, cond, List, [], ◌∷◌, ℕ, zero, suc, ◌+◌, ◌^◌, ◌<◌, ◌≤◌, add-one, arith}
+use Rattle.format.specs.Kit.{ltb, ℤ, pos, negsuc, mag, lt_z, length, get_or, lt-ltb, le-ltb, ltb-true, ltb-false}
 use Rattle.format.specs.Table.{code_in, ascends_from, ascends}
 use Rattle.laws.proofs.Ascending.{lt_trans, above_all, tail_ascends, in_at}
 use Rattle.laws.proofs.Cases.{equal_or, true_or}
@@ -43,9 +44,6 @@ pub record Split (us : List ℤ) (v : ℤ) (lo hi : ℕ) : Type 0 where
   pub low : (i : ℕ) → i < lo → lt_z (get_or us i (pos 0)) v ≡ true
   pub high : (i : ℕ) → hi ≤ i → i < length us → lt_z (get_or us i (pos 0)) v ≡ false
 
-pub split_all : (us : List ℤ) (v : ℤ) → Split us v 0 (length us)
-split_all us v = record { order = omega arith; inside = omega arith; low = λ i h. absurd (omega arith); high = λ i h k. absurd (omega arith) }
-
 pub split_turn : (us : List ℤ) (v : ℤ) (lo hi mid : ℕ) → ascends us ≡ true → Split us v lo hi → lo ≤ mid → mid < hi
     → (t : Bool) → lt_z (get_or us mid (pos 0)) v ≡ t → Split us v (cond t (mid + 1) lo) (cond t hi mid)
 split_turn us v lo hi mid up s a b true e =
@@ -67,10 +65,6 @@ split_turn us v lo hi mid up s a b false e =
           (λ t. t ∙ sym (lt_trans (get_or us mid (pos 0)) (get_or us i (pos 0)) v (asc_at us mid i up (omega arith) k) t) ∙ e) (λ t. t));
     }
 
-pub split_less : (lo hi mid : ℕ) → lo ≤ mid → mid < hi → (t : Bool) → cond t hi mid - cond t (mid + 1) lo < hi - lo
-split_less lo hi mid a b true = omega arith
-split_less lo hi mid a b false = omega arith
-
 -- where they meet is the place
 pub split_end : (us : List ℤ) (v : ℤ) (lo : ℕ) → Split us v lo lo → code_in us v ≡ lo
 unfolding code_in
@@ -86,14 +80,15 @@ split_end (u ∷ us) v (suc lo) s =
     } in
     rw (s.low 0 (omega arith), split_end us v lo more)
 
--- ---- ascending, entry by entry
+-- ---- ascending, neighbour by neighbour
 
-pub ascends_first : (us : List ℤ) → 1 ≤ length us → ascends us ≡ ascends_from (get_or us 0 (pos 0)) (drop 1 us)
-unfolding ascends
-ascends_first [] h = absurd (omega arith)
-ascends_first (u ∷ us) h = refl
+ascends_next : (us : List ℤ) → ((k : ℕ) → suc k < length us → lt_z (get_or us k (pos 0)) (get_or us (suc k) (pos 0)) ≡ true) → ascends us ≡ true
+unfolding ascends ascends_from
+ascends_next [] h = refl
+ascends_next (u ∷ []) h = refl
+ascends_next (u ∷ v ∷ us) h = rw (h 0 (omega arith), ascends_next (v ∷ us) (λ k l. h (suc k) (omega arith)))
 
-pub ascends_turn : (us : List ℤ) (a : ℤ) (i : ℕ) → i < length us
-    → ascends_from a (drop i us) ≡ (lt_z a (get_or us i (pos 0)) && ascends_from (get_or us i (pos 0)) (drop (i + 1) us))
-unfolding ascends_from
-ascends_turn us a i h = rw (add-one, drop-cons us i (pos 0))
+-- what `is_sorted_by` answers
+pub ascends_pairs : (us : List ℤ) (r : Bool) → IsAllAdjacentAnswer (λ x y b. b ≡ lt_z x y) us r → r ≡ ascends us
+ascends_pairs us true h = sym (ascends_next us (λ k l. rw add-one at (sym (h k (pos 0) (omega arith)))))
+ascends_pairs us false (k, l, d) = true_or (ascends us) (λ t. d (pos 0) ∙ asc_at us k (k + 1) t (omega arith) l ∙ sym t) sym

@@ -1,7 +1,11 @@
 -- A value put among entries that ascend, at its place: those from there on move up by one; and so the distinct values. Assumes nothing.
-use Rattle.format.specs.Kit.{◌≡◌, refl, sym, ap, ◌∙◌, subst, true, false, List, [], ◌∷◌, ◌++◌, append_assoc, ℕ, suc, ◌+◌, ◌<◌, ◌≤◌, add-one, arith}
-use Rattle.format.specs.Kit.{ℤ, pos, lt_z, length, get_or, take, drop, set, length-set, length-take-le, drop-cons, drop-set-lt, take-suc-set, get_or-take}
-use Rattle.format.specs.Kit.{get_or-drop, drop_of_length-le, length-append, length-drop, take-take, add-zero}
+use Rattle.std.specs.List.{copy_within}
+use Rattle.std.proofs.lemmas.List.{take_more, drop-take}
+use Rattle.std.proofs.lemmas.List.Edits.{take-paste}
+use Rattle.std.proofs.Math.Seq.{take-set-lt, set-append_seam}
+use Rattle.format.specs.Kit.{◌≡◌, refl, sym, ap, ◌∙◌, subst, true, false, List, [], ◌∷◌, ◌++◌, append_assoc, ℕ, suc, ◌+◌, ◌-◌, ◌<◌, ◌≤◌, add-one, arith}
+use Rattle.format.specs.Kit.{ℤ, pos, lt_z, length, get_or, take, drop, set, length-take-le, drop-cons}
+use Rattle.format.specs.Kit.{drop_of_length-le, length-append, length-drop, take-take}
 use Rattle.format.specs.Table.{insert, insert_all, table_of, code_in, ascends}
 use Rattle.laws.proofs.Ascending.{order_or, lt_not, lt_irrefl, insert_ascends}
 use Rattle.laws.proofs.Cases.{true_or, below_or}
@@ -9,56 +13,26 @@ use Rattle.tables.specs.Holds.{Stands, Holds}
 
 -- ---- entries that move up
 
--- those before j are in place, v or the one that was there last is carried, and those from j on stand where they stood
-pub record Moved (t₀ : List ℤ) (n k : ℕ) (v : ℤ) (t : List ℤ) (carried : ℤ) (j : ℕ) : Type 0 where
-  pub size : length t ≡ length t₀
-  pub least : k ≤ j
-  pub most : j ≤ n
-  pub rest : drop j t ≡ drop j t₀
-  pub whole : take j t ++ (carried ∷ drop j (take n t₀)) ≡ take k t₀ ++ (v ∷ drop k (take n t₀))
-
-module _ (t₀ : List ℤ) (n k : ℕ) (v : ℤ) (room : n < length t₀) where
-  pub moved_none : k ≤ n → Moved t₀ n k v t₀ v k
-  moved_none h = record { size = refl; least = omega arith; most = h; rest = refl; whole = refl }
-
-  module _ {t : List ℤ} {carried : ℤ} {j : ℕ} (m : Moved t₀ n k v t carried j) where
-    -- what stands at j is what stood there
-    same_here : get_or t j (pos 0) ≡ get_or t₀ j (pos 0)
-    same_here =
-        let e = add-zero j in
-        ap (λ (i : ℕ). get_or t i (pos 0)) (sym e) ∙ sym (get_or-drop j t 0 (pos 0)) ∙ ap (λ (l : List ℤ). get_or l 0 (pos 0)) m.rest
-        ∙ get_or-drop j t₀ 0 (pos 0) ∙ ap (λ (i : ℕ). get_or t₀ i (pos 0)) e
-
-    pub moved_more : j < n → Moved t₀ n k v (set t j carried) (get_or t j (pos 0)) (j + 1)
-    moved_more h =
-        let fits : j < length t = omega (arith, m.size) in
-        let part : drop j (take n t₀) ≡ get_or t j (pos 0) ∷ drop (suc j) (take n t₀) =
-        drop-cons (take n t₀) j (pos 0) (omega (arith, length-take-le n t₀ (omega arith)))
-        ∙ ap {B = List ℤ} (λ (x : ℤ). x ∷ drop (suc j) (take n t₀)) (get_or-take n t₀ j (pos 0) h ∙ sym same_here) in
-        let step : drop (suc j) t ≡ drop (suc j) t₀ = tails t t₀ j fits (omega arith) m.rest in
-        record {
-          size = length-set t j carried ∙ m.size;
-          least = omega (arith, m.least);
-          most = omega arith;
-          rest = rw add-one (drop-set-lt (suc j) t j carried (omega arith) ∙ step);
-          whole =
-              rw (add-one, take-suc-set t j carried fits)
-              (append_assoc (take j t) (carried ∷ []) (get_or t j (pos 0) ∷ drop (suc j) (take n t₀))
-              ∙ ap (λ (l : List ℤ). take j t ++ (carried ∷ l)) (sym part) ∙ m.whole);
-        }
-      where
-        tails : (a b : List ℤ) (i : ℕ) → i < length a → i < length b → drop i a ≡ drop i b → drop (suc i) a ≡ drop (suc i) b
-        tails a b i x y e =
-            let h : get_or a i (pos 0) ∷ drop (suc i) a ≡ get_or b i (pos 0) ∷ drop (suc i) b = sym (drop-cons a i (pos 0) x) ∙ e ∙ drop-cons b i (pos 0) y in
-            cc
-
-    pub moved_end : n ≤ j → take (n + 1) (set t n carried) ≡ take k t₀ ++ (v ∷ drop k (take n t₀))
-    moved_end h =
-        let at : j ≡ n = omega (arith, m.most) in
-        let all : length (take n t₀) ≤ j = omega (arith, length-take-le n t₀ (omega arith)) in
-        let none_left : drop j (take n t₀) ≡ [] = drop_of_length-le (take n t₀) all in
-        rw (add-one, take-suc-set t n carried (omega (arith, m.size)))
-        (ap (λ (i : ℕ). take i t ++ (carried ∷ [])) (sym at) ∙ ap (λ (l : List ℤ). take j t ++ (carried ∷ l)) (sym none_left) ∙ m.whole)
+-- the entries from k on move up by one, and v is stored at k
+pub moved_up : (t : List ℤ) (n k : ℕ) (v : ℤ) → k ≤ n → n < length t
+    → take (n + 1) (set (copy_within t k n (k + 1)) k v) ≡ take k t ++ (v ∷ drop k (take n t))
+moved_up t n k v h room =
+    let x : ℤ = get_or t k (pos 0) in
+    let after : List ℤ = copy_within t k n (k + 1) in
+    let all : n + 1 ≡ k + 1 + (n - k) = omega arith in
+    let same : k + (n - k) ≡ n = omega arith in
+    let rest : drop k (take n t) ≡ take (n - k) (drop k t) = ap (λ (m : ℕ). drop k (take m t)) (sym same) ∙ drop-take k (n - k) t in
+    let head : take (k + 1) t ≡ take k t ++ (x ∷ []) = take_more t k (pos 0) (omega arith) in
+    let stands : take (n + 1) after ≡ take k t ++ (x ∷ drop k (take n t)) =
+    ap (λ (m : ℕ). take m after) all
+    ∙ take-paste t (k + 1) (drop k t) (n - k) (omega arith) (omega (arith, length-drop k t))
+    ∙ ap (λ (l : List ℤ). l ++ take (n - k) (drop k t)) head
+    ∙ append_assoc (take k t) (x ∷ []) (take (n - k) (drop k t))
+    ∙ ap (λ (l : List ℤ). take k t ++ (x ∷ l)) (sym rest) in
+    take-set-lt (n + 1) after k v (omega arith)
+    ∙ ap (λ (l : List ℤ). set l k v) stands
+    ∙ ap (λ (m : ℕ). set (take k t ++ (x ∷ drop k (take n t))) m v) (sym (length-take-le k t (omega arith)))
+    ∙ set-append_seam (take k t) x (drop k (take n t)) v
 
 -- ---- put in at its place
 

@@ -15,6 +15,7 @@ fn chosen(test: bool, x: usize, y: usize) -> usize
 }
 
 // A value's place in a table that ascends: that of the first entry which is not below it. `b` is the value's biased form.
+// Std's `partition_point` decides by an `if`, which LLVM makes the jump that `chosen` avoids, so the halving is written out.
 pub fn place(table: &[i64], b: u64) -> usize
     requires { ascends table.now ≡ true }
     ensures { (result ≡ code_in table.now (unbiased b)) × (result ≤ length table.now) }
@@ -45,14 +46,7 @@ pub fn ascending(table: &[i64]) -> bool
     requires { 1 ≤ length table.now }
     ensures { result ≡ ascends table.now }
 {
-    let mut i = 1;
-    while i < table.len() {
-        if signed::biased(table[i]) <= signed::biased(table[i - 1]) {
-            return false;
-        }
-        i += 1;
-    }
-    true
+    table.is_sorted_by(|a, b| a < b)
 }
 
 // ---- guesses
@@ -73,13 +67,6 @@ fn slot_of(b: u64, m: usize) -> usize
     (spread % 4294967296) as usize * m / 4294967296
 }
 
-// A guess as a place.
-fn wide(guess: u8) -> usize
-    ensures { result ≡ guess }
-{
-    guess as usize
-}
-
 // The same as `place`, and mostly without a search: a value is mostly one that was sought before, so where each was found is kept in its slot,
 // as a guess for the next time. A guess is tested, so none need be right: with any guesses at all the place is the value's own.
 pub fn place_of(guesses: &mut [u8], table: &[i64], b: u64) -> usize
@@ -87,7 +74,7 @@ pub fn place_of(guesses: &mut [u8], table: &[i64], b: u64) -> usize
     ensures { (result ≡ code_in table.now (unbiased b)) × (result ≤ length table.now) }
 {
     let s = slot_of(b, guesses.len());
-    let guess = wide(guesses[s]);
+    let guess = usize::from(guesses[s]);
     if has(table, guess, b) {
         return guess;
     }
@@ -103,15 +90,8 @@ fn put_in(table: &mut [i64], n: usize, k: usize, b: u64)
     requires { (k ≤ n) × (n < length table.old) }
     ensures { take (n + 1) table.new ≡ take k table.old ++ (unbiased b ∷ drop k (take n table.old)) }
 {
-    let mut carried = signed::unbiased(b);
-    let mut j = k;
-    while j < n {
-        let here = table[j];
-        table[j] = carried;
-        carried = here;
-        j += 1;
-    }
-    table[n] = carried;
+    table.copy_within(k..n, k + 1);
+    table[k] = signed::unbiased(b);
 }
 
 // Puts a value among the first n entries, which ascend, unless it is there. How many there are then; if there is no room for it, one more than
@@ -132,33 +112,31 @@ fn added(table: &mut [i64], guesses: &mut [u8], n: usize, b: u64) -> usize
 }
 
 // The distinct values, ascending, as the table's first entries, and how many they are: in one pass that stops where the table has no room for
-// them, and then says one more than it has.
-fn gathered(table: &mut [i64], guesses: &mut [u8], values: &[i64]) -> usize
-    requires { (1 ≤ length guesses.old) × (length guesses.old ≤ 4096) }
+// them, and then says one more than it has. With G guesses.
+fn gathered<const G: usize>(table: &mut [i64], values: &[i64]) -> usize
+    requires { (1 ≤ G) × (G ≤ 4096) }
     ensures { Holds (length table.old) (table_of values.now) result table.new }
 {
+    let mut guesses = [0u8; G];
     let mut n: usize = 0;
-    let mut i: usize = 0;
-    while i < values.len() {
-        n = added(table, guesses, n, signed::biased(values[i]));
+    for x in values {
+        n = added(table, &mut guesses, n, signed::biased(*x));
         if n > table.len() {
             return n;
         }
-        i += 1;
     }
     n
 }
 
-// The same, with guesses of its own.
+// The same, with as many guesses as so many values are worth.
 pub fn distinct(table: &mut [i64], values: &[i64]) -> usize
     ensures { Holds (length table.old) (table_of values.now) result table.new }
 {
     if values.len() < MANY {
-        let mut few = [0u8; FEW_GUESSES];
-        return gathered(table, &mut few, values);
+        gathered::<FEW_GUESSES>(table, values)
+    } else {
+        gathered::<GUESSES>(table, values)
     }
-    let mut guesses = [0u8; GUESSES];
-    gathered(table, &mut guesses, values)
 }
 
 // ---- marks
@@ -168,12 +146,5 @@ pub fn all_marked(marks: &[u8], t: usize) -> bool
     requires { t ≤ length marks.now }
     ensures { (result ≡ true → AllMarked marks.now t) × (result ≡ false → AllMarked marks.now t → ⊥) }
 {
-    let mut i = 0;
-    while i < t {
-        if marks[i] == 0 {
-            return false;
-        }
-        i += 1;
-    }
-    true
+    marks[..t].iter().all(|mark| *mark != 0)
 }

@@ -1,9 +1,9 @@
 -- Edition 4 in the code's words: what a plan says of its table and values. Assumes nothing.
-use Rattle.format.specs.Kit.{◌≡◌, refl, sym, ap, ◌∙◌, subst, true, List, ℕ, ◌+◌, ◌*◌, ◌-◌, ◌<◌, ◌≤◌, mul-le-mul_left, arith, ℤ, length}
+use Rattle.format.specs.Kit.{◌≡◌, refl, sym, ap, ◌∙◌, subst, true, List, ℕ, ◌*◌, ◌≤◌, mul-le-mul_left, arith, ℤ, length}
 use Rattle.format.specs.Pairs.{Each, Fits}
 use Rattle.format.specs.Codec.{Fields}
 use Rattle.format.specs.Editions.{plain, table, codec}
-use Rattle.format.specs.Table.{table_of, code_width, table_fields, table_bytes, table_section, table_ok, tabled}
+use Rattle.format.specs.Table.{table_of, code_width, table_fields, table_bytes, table_section, tabled}
 use Rattle.laws.proofs.Ascending.{table_few}
 use Rattle.laws.proofs.Table.{TableFacts, table_facts, facts_table, length_section, code_narrow}
 use Rattle.laws.proofs.Plans.{taken_fit}

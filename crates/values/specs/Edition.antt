@@ -6,7 +6,6 @@ use Rattle.format.specs.Codec.{Fields}
 use Rattle.format.specs.Table.{table_of}
 use Rattle.format.specs.Editions.{Edition, plain, lucene, runs, table, codec}
 use Rattle.packings.specs.declared.Order as Od
-pub use Rattle.scaled_values.specs.declared.slots.Slotted.{Slotted}
 use Rattle.scaled_values.specs.Slots.{slot_value}
 pub use Rattle.scaled_values.specs.Slots.{Stands, slot_number}
 use Rattle.scaled_check.specs.ValuesOk.{values_ok}
@@ -16,6 +15,8 @@ use Rattle.table_check.specs.ValuesOk as Table
 use Rattle.values.specs.declared.Edition as Ed
 use Rattle.values.specs.declared.Layout as La
 pub use Rattle.answers.specs.Replies.{fields_of, fetched_of}
+use Rattle.std.specs.declared.option.Option as Op
+use Rattle.scaled_values.specs.declared.slots.Slot.{Slot}
 
 abbrev pub edition_of : Ed.Edition → Edition
 edition_of Ed.Edition.Plain = plain
@@ -45,14 +46,14 @@ Readable runs f v = 0 < f.divisor
 Readable table f v = 8 * f.divisor ≤ v
 
 -- the value of a number that was stored in a section
-abbrev pub stored_value : Edition → Fields → List ℕ → Slotted → ℕ → Option ℤ
+abbrev pub stored_value : Edition → Fields → List ℕ → Op.Option Slot → ℕ → Option ℤ
 stored_value plain f s x n = slot_value f.divisor x n
 stored_value lucene f s x n = slot_value f.divisor x n
 stored_value runs f s x n = slot_value f.divisor x n
 stored_value table f s x n = code_value f.divisor s n
 
 -- where the number of ordinal i stands: its bits are in the section, and what is read there is step 7
-abbrev pub SlotOf : Edition → ℕ → Fields → List ℕ → ℕ → Slotted → Type 0
+abbrev pub SlotOf : Edition → ℕ → Fields → List ℕ → ℕ → Op.Option Slot → Type 0
 SlotOf ed n f s i x =
     (Stands (order_of ed) s x) × (Readable ed f (length s)) × ((codec ed).value n f s i ≡ stored_value ed f s x (slot_number (order_of ed) s x))
 

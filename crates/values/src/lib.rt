@@ -12,12 +12,12 @@ ghost use Rattle.format.specs.Drawn.{drawn};
 ghost use Rattle.scaled_values.specs.Slots.{Stands, slot_number};
 ghost use Rattle.values.specs.Edition.{edition_of, layout_of, order_of, Readable, stored_value, SlotOf, fields_of, fetched_of, tests, PlanFor};
 
-pub use answers::{Fetched, Fields};
+pub use answers::Fields;
 use packings::Order;
-use scaled_values::Slotted;
+use scaled_values::Slot;
 
 // The editions of a column.
-#[derive(Clone, Copy)]
+#[derive(Clone, Copy, Debug, PartialEq, Eq)]
 pub enum Edition {
     // Document 01's, edition 1.
     Plain,
@@ -67,12 +67,7 @@ pub fn rules(edition: Edition, n: u64, fields: Fields, v: u64) -> bool
 pub fn by_plan(edition: Edition) -> bool
     ensures { (result ≡ true → edition_of edition ≡ table) × (result ≡ false → edition_of edition ≡ table → ⊥) }
 {
-    match edition {
-        Edition::Plain => false,
-        Edition::Lucene => false,
-        Edition::Runs => false,
-        Edition::Table => true,
-    }
+    matches!(edition, Edition::Table)
 }
 
 // The edition that a plan of so many entries is written in: plain, which has none, gives edition 1.
@@ -90,11 +85,10 @@ pub fn plan(edition: Edition, values: &[i64], table: &[i64]) -> Fields
     requires { PlanFor (edition_of edition) table.now values.now }
     ensures { (fields_of result ≡ (codec (edition_of edition)).fields values.now) × Each Fits values.now }
 {
-    match edition {
-        Edition::Plain => scaled_values::plan(Order::High, values),
-        Edition::Lucene => scaled_values::plan(Order::Low, values),
-        Edition::Runs => run_writer::plan(values),
-        Edition::Table => table_values::fields_of(table.len() as u64),
+    match layout_of(edition) {
+        Layout::Whole(order) => scaled_values::plan(order, values),
+        Layout::Runs => run_writer::plan(values),
+        Layout::Table => table_values::fields_of(table.len() as u64),
     }
 }
 
@@ -104,11 +98,10 @@ pub fn length(edition: Edition, values: &[i64], fields: Fields) -> u64
         × ((codec (edition_of edition)).takes values.now ≡ true) }
     ensures { (result ≡ length ((codec (edition_of edition)).section values.now)) × (result ≤ 33 * length values.now) }
 {
-    match edition {
-        Edition::Plain => scaled_values::length(Order::High, values, fields),
-        Edition::Lucene => scaled_values::length(Order::Low, values, fields),
-        Edition::Runs => run_writer::length(values, fields),
-        Edition::Table => table_values::bytes_of(fields.divisor, values.len() as u64),
+    match layout_of(edition) {
+        Layout::Whole(order) => scaled_values::length(order, values, fields),
+        Layout::Runs => run_writer::length(values, fields),
+        Layout::Table => table_values::bytes_of(fields.divisor, values.len() as u64),
     }
 }
 
@@ -119,11 +112,10 @@ pub fn put(out: &mut [u8], edition: Edition, values: &[i64], fields: Fields, tab
     ensures { out.new ≡ (codec (edition_of edition)).section values.now
         ++ drop (length ((codec (edition_of edition)).section values.now)) out.old }
 {
-    match edition {
-        Edition::Plain => scaled_values::put(out, Order::High, values, fields),
-        Edition::Lucene => scaled_values::put(out, Order::Low, values, fields),
-        Edition::Runs => run_writer::put(out, values, fields),
-        Edition::Table => table_writer::put(out, table, values),
+    match layout_of(edition) {
+        Layout::Whole(order) => scaled_values::put(out, order, values, fields),
+        Layout::Runs => run_writer::put(out, values, fields),
+        Layout::Table => table_writer::put(out, table, values),
     }
 }
 
@@ -143,20 +135,21 @@ fn order_of(edition: Edition) -> Order
 
 // Step 7, in three calls that are compiled into the look-up, the next candidate and the page: where the number stored for ordinal i, of n,
 // stands,
-pub fn slot_of(section: &[u8], edition: Edition, n: u64, fields: Fields, i: u64) -> Slotted
+pub fn slot_of(section: &[u8], edition: Edition, n: u64, fields: Fields, i: u64) -> Option<Slot>
     requires { (n ≤ max_count) × ((codec (edition_of edition)).fields_ok n (fields_of fields) (length section.now) ≡ true) × (i < n) }
     ensures { SlotOf (edition_of edition) n (fields_of fields) section.now i result }
 {
     match edition {
-        Edition::Plain => scaled_values::whole(fields.width, fields.smallest, i),
-        Edition::Lucene => scaled_values::whole(fields.width, fields.smallest, i),
+        Edition::Plain | Edition::Lucene => {
+            scaled_values::whole(fields.width, fields.smallest, i)
+        }
         Edition::Runs => run_values::slot_at(section, n, i),
         Edition::Table => table_values::slot_at(fields.width, fields.divisor, i),
     }
 }
 
 // the number there,
-pub fn number_in(section: &[u8], edition: Edition, slot: Slotted) -> u64
+pub fn number_in(section: &[u8], edition: Edition, slot: Option<Slot>) -> u64
     requires { Stands (order_of (edition_of edition)) section.now slot }
     ensures { result ≡ slot_number (order_of (edition_of edition)) section.now slot }
 {
@@ -168,9 +161,9 @@ pub fn value_of(
     section: &[u8],
     edition: Edition,
     fields: Fields,
-    slot: Slotted,
+    slot: Option<Slot>,
     stored: u64,
-) -> Fetched
+) -> Option<i64>
     requires { Readable (edition_of edition) (fields_of fields) (length section.now) }
     ensures { fetched_of result ≡ stored_value (edition_of edition) (fields_of fields) section.now slot stored }
 {
@@ -185,11 +178,10 @@ pub fn check(section: &[u8], edition: Edition, n: u64, fields: Fields) -> bool
     requires { (n ≤ max_count) × ((codec (edition_of edition)).fields_ok n (fields_of fields) (length section.now) ≡ true) }
     ensures { result ≡ tests (edition_of edition) n (fields_of fields) section.now }
 {
-    match edition {
-        Edition::Plain => scaled_check::values_ok(section, Order::High, n, fields),
-        Edition::Lucene => scaled_check::values_ok(section, Order::Low, n, fields),
-        Edition::Runs => run_check::values_ok(section, n, fields),
-        Edition::Table => table_check::values_ok(section, n, fields),
+    match layout_of(edition) {
+        Layout::Whole(order) => scaled_check::values_ok(section, order, n, fields),
+        Layout::Runs => run_check::values_ok(section, n, fields),
+        Layout::Table => table_check::values_ok(section, n, fields),
     }
 }
 
@@ -200,11 +192,10 @@ pub fn fill(values: &mut [i64], section: &[u8], edition: Edition, n: u64, fields
     ensures { (vs : List ℤ) → all_values n ((codec (edition_of edition)).value n (fields_of fields) section.now) ≡ some vs
         → values.new ≡ vs ++ drop n values.old }
 {
-    match edition {
-        Edition::Plain => scaled_reader::fill(values, section, Order::High, n as usize, fields),
-        Edition::Lucene => scaled_reader::fill(values, section, Order::Low, n as usize, fields),
-        Edition::Runs => run_reader::fill(values, section, n as usize, fields),
-        Edition::Table => table_values::fill(values, section, n as usize, fields),
+    match layout_of(edition) {
+        Layout::Whole(order) => scaled_reader::fill(values, section, order, n as usize, fields),
+        Layout::Runs => run_reader::fill(values, section, n as usize, fields),
+        Layout::Table => table_values::fill(values, section, n as usize, fields),
     }
 }
 
@@ -228,19 +219,15 @@ fn draw_each(
         × (values.new
         ≡ sets values.old from (drawn ((codec (edition_of edition)).value n (fields_of fields) section.now) (end - from) x)) }
 {
-    let mut o = x;
-    let mut i = from;
-    while i < end {
-        let slot: Slotted = slot_of(section, edition, n, fields, o);
+    for i in from..end {
+        let slot = slot_of(section, edition, n, fields, x + ((i - from) as u64));
         let stored = number_in(section, edition, slot);
-        let Fetched::Value(value) = value_of(section, edition, fields, slot, stored) else {
+        let Some(value) = value_of(section, edition, fields, slot, stored) else {
             return i;
         };
         values[i] = value;
-        o += 1;
-        i += 1;
     }
-    i
+    end
 }
 
 // The same in runs: those of x's own run number after number, and what comes after them by step 7 for each.
@@ -281,29 +268,12 @@ pub fn draw(
         × (values.new
         ≡ sets values.old from (drawn ((codec (edition_of edition)).value n (fields_of fields) section.now) (end - from) x)) }
 {
-    match edition {
-        Edition::Plain => scaled_reader::draw(
-            values,
-            section,
-            Order::High,
-            n as usize,
-            fields,
-            x as usize,
-            from,
-            end,
+    match layout_of(edition) {
+        Layout::Whole(order) => scaled_reader::draw(
+            values, section, order, n as usize, fields, x as usize, from, end,
         ),
-        Edition::Lucene => scaled_reader::draw(
-            values,
-            section,
-            Order::Low,
-            n as usize,
-            fields,
-            x as usize,
-            from,
-            end,
-        ),
-        Edition::Runs => draw_runs(values, section, n, fields, x, from, end),
-        Edition::Table => table_values::draw(
+        Layout::Runs => draw_runs(values, section, n, fields, x, from, end),
+        Layout::Table => table_values::draw(
             values, section, n as usize, fields, x as usize, from, end,
         ),
     }

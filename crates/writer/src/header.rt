@@ -32,10 +32,8 @@ fn numbers_len(ns: &[u64]) -> usize
     ensures { (result ≡ length (bytes_of number ns.now)) × (result ≤ 90) }
 {
     let mut sum: usize = 0;
-    let mut k: usize = 0;
-    while k < ns.len() {
-        sum += header_numbers::number_len(ns[k]);
-        k += 1;
+    for n in ns {
+        sum += header_numbers::number_len(*n);
     }
     sum
 }
@@ -45,11 +43,8 @@ fn put_numbers(out: &mut [u8], ns: &[u64]) -> usize
     ensures { (result ≡ length (bytes_of number ns.now)) × (out.new ≡ sets out.old 0 (bytes_of number ns.now)) }
 {
     let mut i: usize = 0;
-    let mut k: usize = 0;
-    while k < ns.len() {
-        let n = ns[k];
-        i = header_numbers::put_number(out, i, n);
-        k += 1;
+    for n in ns {
+        i = header_numbers::put_number(out, i, *n);
     }
     i
 }

@@ -1,11 +1,7 @@
 -- `block_writer::put_dense` meets its contract. Assumes nothing.
-use Rattle.format.specs.Kit.{arith, ◌∙◌}
+use Rattle.format.specs.Kit.{◌∙◌}
 use Rattle.block_writer.proofs.Ranks.{plain}
 use Rattle.block_writer.proofs.put_dense.Goals as goal
-
-pub put_ranked-requires : goal.put_ranked-requires
-put_ranked-requires c =
-    (c.requires.0, c.requires.1.least c.if-p-eq0.false, c.requires.1.most, omega arith)
 
 pub returns-then-p-eq0 : goal.returns-then-p-eq0
 returns-then-p-eq0 c =

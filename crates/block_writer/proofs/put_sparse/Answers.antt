@@ -1,5 +1,5 @@
 -- `block_writer::put_sparse` meets its contract. Assumes nothing.
-use Rattle.format.specs.Kit.{sym, ap, ◌∙◌, List, ℕ, ◌+◌, ◌-◌, ◌*◌, arith, sets}
+use Rattle.format.specs.Kit.{sym, ap, ◌∙◌, List, ℕ, ◌+◌, ◌*◌, arith, sets}
 use Rattle.format.specs.Bytes.{low, bytes_of}
 use Rattle.block_writer.specs.Part.{places_from}
 use Rattle.block_writer.proofs.Data.{short_more, short_end}

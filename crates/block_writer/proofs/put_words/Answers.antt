@@ -1,7 +1,7 @@
 -- `block_writer::put_words` meets its contract. Assumes nothing.
-use Rattle.format.specs.Kit.{arith, ◌≡◌, subst, ℕ, ◌-◌}
+use Rattle.format.specs.Kit.{arith, ◌≡◌, subst, ℕ}
 use Rattle.block_writer.specs.Part.{Gone}
-use Rattle.block_writer.proofs.Lay.{none, all, one_more}
+use Rattle.block_writer.proofs.Lay.{all, one_more}
 use Rattle.block_writer.proofs.put_words.Goals as goal
 
 pub loop-t-preserved : goal.loop-t-preserved
@@ -20,6 +20,3 @@ returns c =
       omega arith,
       subst (λ (n : ℕ). Gone a.part.now a.from a.k n c.loop-t.m) e c.loop-t.invariant.gone,
     )
-
-pub loop-t-init : goal.loop-t-init
-loop-t-init c = none c.requires.0

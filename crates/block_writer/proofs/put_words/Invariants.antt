@@ -1,10 +1,6 @@
-use Rattle.format.specs.Kit.{◌-◌}
 use Rattle.block_writer.proofs.Lay.{Lain}
 use Rattle.block_writer.proofs.put_words.Given as goal
 
 -- `block_writer::put_words` meets its contract. Assumes nothing.
 abbrev pub invariant-loop-t : goal.invariant-loop-t
 invariant-loop-t l = Lain l.part l.from l.k l.n l.initial.out l.at l.t l.m l.sum l.out
-
-abbrev pub decreases-loop-t : goal.decreases-loop-t
-decreases-loop-t l = l.n - l.t

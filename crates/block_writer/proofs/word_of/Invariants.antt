@@ -1,10 +1,6 @@
-use Rattle.format.specs.Kit.{◌-◌, length}
 use Rattle.block_writer.proofs.Words.{Gathered}
 use Rattle.block_writer.proofs.word_of.Given as goal
 
 -- `block_writer::word_of` meets its contract. Assumes nothing.
 abbrev pub invariant-loop-m : goal.invariant-loop-m
 invariant-loop-m l = Gathered l.part l.from l.k l.bits l.m
-
-abbrev pub decreases-loop-m : goal.decreases-loop-m
-decreases-loop-m l = length l.part - l.m

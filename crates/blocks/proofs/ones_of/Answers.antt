@@ -7,5 +7,5 @@ pub returns : goal.returns
 returns c =
     let w = c.args.w in
     let f = c.ranges.w.fits in
-    let e = c.wide32.ensures.0 in
+    let e = c.from.ensures in
     (e ∙ sym (ones_in_lem 64 w f), omega (arith, e, ones-le 64 w f), e)

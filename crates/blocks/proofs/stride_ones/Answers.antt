@@ -29,16 +29,3 @@ returns c =
     let e : 4 * c.size.result ≡ 2 ^ (c.args.p - 6) =
     omega (arith, stride_fours c.args.p (omega arith), c.size.ensures, c.pow2.ensures) in
     (whole (goal.at.returns c).Start _ _ e c.ones_from-2.ensures.0, omega (arith, e))
-
-pub ones_from-requires : goal.ones_from-requires
-ones_from-requires c = (omega (arith, stride_at 7 c.args.p c.if-p-eq7.true, c.requires.2), omega arith)
-
-pub returns-then-p-eq7 : goal.returns-then-p-eq7
-returns-then-p-eq7 c = let e = stride_at 7 c.args.p c.if-p-eq7.true in
-    (whole (goal.at.returns-then-p-eq7 c).Start 2 _ e c.ones_from.ensures.0, omega (arith, e))
-
-pub four_ones-requires : goal.four_ones-requires
-four_ones-requires c = omega (arith, stride_at 9 c.args.p c.if-p-eq9.true, c.requires.2)
-
-pub four_ones-requires-then-p-eq9 : goal.four_ones-requires-then-p-eq9
-four_ones-requires-then-p-eq9 c = omega (arith, stride_at 9 c.args.p c.if-p-eq9.true, c.requires.2)

@@ -1,5 +1,5 @@
 -- `column::head_ok` meets its contract: one broken rule decides, and so do all that hold. Assumes nothing.
-use Rattle.format.specs.Kit.{rules, sym, ◌∙◌, and-false, ◌+◌, ◌*◌, le-leb, lt-leb}
+use Rattle.format.specs.Kit.{sym, ◌∙◌, and-false, ◌+◌, ◌*◌, le-leb, lt-leb}
 use Rattle.format.specs.Limits.{max_count, max_jumps}
 use Rattle.format.specs.Opening.{head_ok}
 use Rattle.laws.proofs.Editions.{wide}

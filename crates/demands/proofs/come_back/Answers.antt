@@ -4,7 +4,7 @@ use Rattle.answers.specs.Replies.{reply_of}
 use Rattle.demands.proofs.Replies.{not_done, not_refusal, done_is}
 use Rattle.demands.proofs.Lists.{moved}
 use Rattle.demands.proofs.come_back.Goals as goal
-use Rattle.demands.proofs.come_back.Goals.{In-Done}
+use Rattle.demands.proofs.come_back.Goals.{In-Ok}
 
 pub returns-in_default : goal.returns-in_default
 returns-in_default c =
@@ -14,17 +14,17 @@ returns-in_default c =
 -- more bytes than the output has
 pub returns-then-end-out : goal.returns-then-end-out
 returns-then-end-out c =
-    let t = c.in-Done.is in record { same = sym t; back = λ n m d h x. absurd (let e = sym (ap reply_of t) ∙ d in let z = done_is e in omega (arith, c.if-end-out.true)); refused = λ why w f. not_refusal _ _ t why w f }
+    let t = c.in-Ok.is in record { same = sym t; back = λ n m d h x. absurd (let e = sym (ap reply_of t) ∙ d in let z = done_is e in omega (arith, c.if-end-out.true)); refused = λ why w f. not_refusal _ _ t why w f }
 
 pub returns : goal.returns
 returns c =
     let a = c.args in
-    let t = c.in-Done.is in
+    let t = c.in-Ok.is in
     let k = c.check_then_read-back.ensures in record {
       same = sym t;
       back = λ n i d h x.
           let e = done_is (sym (ap reply_of t) ∙ d) in
-          let y = moved _ _ (sym (ap (λ (j : ℕ). take j a.out.now) (sub-zero c.in-Done.n ∙ e))) i x in
+          let y = moved _ _ (sym (ap (λ (j : ℕ). take j a.out.now) (sub-zero c.in-Ok.n ∙ e))) i x in
           record {
             checks = λ j g. (k.accepts _).1 y;
             reads = λ j g hi hx. k.reads _ y hi hx;

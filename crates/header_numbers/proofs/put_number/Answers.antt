@@ -32,14 +32,5 @@ returns c =
 pub bounds-out-i : goal.bounds-out-i
 bounds-out-i c = omega (arith, longer c)
 
-pub overflow_add-i : goal.overflow_add-i
-overflow_add-i c = omega (arith, longer c)
-
 pub bounds-out-i-2 : goal.bounds-out-i-2
 bounds-out-i-2 c = omega (arith, shortest c.loop-x.x c.loop-x-test.false)
-
-pub overflow_add-result : goal.overflow_add-result
-overflow_add-result c = omega (arith, shortest c.loop-x.x c.loop-x-test.false)
-
-pub shape_of-out : goal.shape_of-out
-shape_of-out c = simp length-set c.loop-x.invariant.0

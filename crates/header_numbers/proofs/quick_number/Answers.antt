@@ -7,4 +7,4 @@ use Rattle.header_numbers.proofs.quick_number.Goals as goal
 pub returns-then-b-lt128 : goal.returns-then-b-lt128
 returns-then-b-lt128 c =
     let a = c.args in
-    quick_is 1 (small_first a.s.now a.at c.wide-b.ensures.0 (omega arith) c.if-b-lt128.true) (omega arith) refl refl refl
+    quick_is 1 (small_first a.s.now a.at c.from-b.ensures (omega arith) c.if-b-lt128.true) (omega arith) refl refl refl

@@ -1,5 +1,5 @@
 -- `header_numbers::read_number` meets its contract: a number's first byte, which may be its last. Assumes nothing.
-use Rattle.format.specs.Kit.{sym, ◌∙◌, arith}
+use Rattle.format.specs.Kit.{sym, ◌∙◌}
 use Rattle.header_numbers.proofs.Steps.{none_first, small_first, more_first}
 use Rattle.header_numbers.proofs.read_number.Goals as goal
 
@@ -9,13 +9,9 @@ returns-then-s-at c = let a = c.args in sym (none_first a.s.now a.at c.if-s-at.t
 pub returns-then-b-lt128 : goal.returns-then-b-lt128
 returns-then-b-lt128 c =
     let a = c.args in
-    sym (small_first a.s.now a.at c.wide-b.ensures.0 c.if-s-at.false c.if-b-lt128.true)
-
-pub read_rest-requires : goal.read_rest-requires
-read_rest-requires c =
-    omega (arith, c.type_inv.s c.args.at)
+    sym (small_first a.s.now a.at c.from-b.ensures c.if-s-at.false c.if-b-lt128.true)
 
 pub returns : goal.returns
 returns c =
     let a = c.args in
-    c.read_rest.ensures ∙ sym (more_first a.s.now a.at c.wide-b.ensures.0 c.if-s-at.false c.if-b-lt128.false)
+    c.read_rest.ensures ∙ sym (more_first a.s.now a.at c.from-b.ensures c.if-s-at.false c.if-b-lt128.false)

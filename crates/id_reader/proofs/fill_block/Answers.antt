@@ -34,9 +34,6 @@ all_is c =
 pub fill_sparse-requires : goal.fill_sparse-requires
 fill_sparse-requires c = let q = sparse_is (goal.at.fill_sparse-requires c).In-Sparse in (search rules, omega (arith, q.1), omega (arith, ap length q.0))
 
-pub overflow_add-m : goal.overflow_add-m
-overflow_add-m c = omega (arith, (dense_is c).1)
-
 pub fill_words-requires : goal.fill_words-requires
 fill_words-requires c = let q = dense_is (goal.at.fill_words-requires c).After-rank_bytes in (omega arith, omega (arith, q.1), omega (arith, ap length q.0))
 

@@ -1,5 +1,5 @@
 -- `id_reader::fill_ids` meets its contract: at each turn the runs ahead stand at the loop's place, and
-use Rattle.format.specs.Kit.{◌≡◌, refl, ap, ◌∙◌, ℕ, ◌+◌, ◌-◌, ◌≤◌, arith, rules, length, drop, sets}
+use Rattle.format.specs.Kit.{◌≡◌, refl, ap, ◌∙◌, ℕ, ◌+◌, ◌≤◌, arith, rules, length, drop, sets}
 use Rattle.format.specs.Bytes.{low_at}
 use Rattle.format.specs.IdsRead.{places_in}
 use Rattle.laws.proofs.Stores.{sets_front}
@@ -52,11 +52,6 @@ fill_block-requires c =
     let g = counted (goal.at.fill_block-requires c).After-size-c in
     (search rules, search rules, omega (arith, g.inside), omega (arith, g.enough, ap length (based (goal.at.fill_block-requires c).After-base_of-base)))
 
-pub overflow_add-o : goal.overflow_add-o
-overflow_add-o c =
-    let g = counted (goal.at.overflow_add-o c).After-size-c in
-    omega (arith, g.enough, g.count, c.loop-k.invariant.fill.kept)
-
 pub loop-k-preserved : goal.loop-k-preserved
 loop-k-preserved c =
     let l = c.loop-k in
@@ -88,6 +83,3 @@ short_at-k-requires-in-loop-k c = omega (arith, next_in c)
 
 pub loop-k-smaller : goal.loop-k-smaller
 loop-k-smaller c = omega (arith, next_in (goal.at.loop-k-smaller c).After-data_bytes)
-
-pub shape_of-ids : goal.shape_of-ids
-shape_of-ids c = c.loop-k.invariant.fill.kept

@@ -17,11 +17,5 @@ first c =
 pub returns-then-p-eq0 : goal.returns-then-p-eq0
 returns-then-p-eq0 c = (sym (long_none _ _ c.if-p-eq0.true), omega arith)
 
-pub stride-requires : goal.stride-requires
-stride-requires c = (omega (arith, c.requires.0.least c.if-p-eq0.false), c.requires.0.most)
-
-pub overflow_mul-result : goal.overflow_mul-result
-overflow_mul-result c = omega (arith, (first c).1)
-
 pub returns : goal.returns
 returns c = first c

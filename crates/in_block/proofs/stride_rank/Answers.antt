@@ -12,12 +12,6 @@ entry c = entry_in c.args.p c.args.r c.requires.0 c.if-p-eq0.false c.requires.1
 pub returns-then-p-eq0 : goal.returns-then-p-eq0
 returns-then-p-eq0 c = (sym (rank_none _ _ _ _ c.if-p-eq0.true), omega arith)
 
-pub overflow_mul-r : goal.overflow_mul-r
-overflow_mul-r c = omega (arith, entry c)
-
-pub overflow_add-t : goal.overflow_add-t
-overflow_add-t c = omega (arith, entry c)
-
 pub rank_at-requires : goal.rank_at-requires
 rank_at-requires c = omega (arith, entry c)
 

@@ -11,17 +11,13 @@ use Rattle.layered.specs.Answers.{layer_of}
 use Rattle.layered.proofs.section_in.Goals as goal
 use Rattle.layered.proofs.section_in.Goals.{After-size-2}
 
-open_at : (c : After-size-2)
-    → open_column editions c.args.bytes.now
-    ≡ done (column_of c.in-Open.column)
-open_at c =
-    let o = c.open-opened in
-    opened_as_lem c.args.bytes.now o.result c.in-Open.column o.ensures c.in-Open.is
+open_at : (c : After-size-2) → open_column editions c.args.bytes.now ≡ done (column_of c.in-Ok.column)
+open_at c = opened_as_lem c.args.bytes.now c.open.result c.in-Ok.column c.open.ensures c.in-Ok.is
 
 pub returns-in_default : goal.returns-in_default
 unfolding section_in
 returns-in_default c =
-    let o = c.open-opened in
+    let o = c.open in
     let a = c.args in
     c.no_part.ensures ∙ sym (ap (section_in (layer_of a.layer)) (refused_as_lem a.bytes.now o.result c.in_default.field-0 o.ensures c.in_default.is))
 

@@ -1,5 +1,5 @@
 -- `layered_page::look_up_layered_page` meets its contract. Assumes nothing.
-use Rattle.format.specs.Kit.{refl, sym, ◌∙◌, ◌≤◌, arith, length}
+use Rattle.format.specs.Kit.{refl, sym, ◌∙◌, ◌≤◌, length}
 use Rattle.format.specs.Editions.{editions}
 use Rattle.format.specs.LookUp.{look_up}
 use Rattle.format.specs.Layered.{look_up_layered}
@@ -29,11 +29,6 @@ fill_by-counted-requires c =
     let a = c.args in
     let r = room (goal.at.fill_by-counted-requires c).Else-not-roomy in
     (open_fits _ c.open-top.result c.open-top.ensures, record { ordinals_long = r.0; values_long = r.1; kinds_long = r.2 })
-
-pub mark-requires : goal.mark-requires
-mark-requires c =
-    let r = room (goal.at.mark-requires c).Else-not-roomy in
-    (omega (arith, r.3), omega (arith, r.2, c.fill_by-counted.auto.kinds))
 
 pub returns-then-not-mark : goal.returns-then-not-mark
 unfolding layered_page

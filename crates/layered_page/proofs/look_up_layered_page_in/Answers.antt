@@ -1,5 +1,5 @@
 -- `layered_page::look_up_layered_page_in` meets its contract. Assumes nothing.
-use Rattle.format.specs.Kit.{refl, sym, ◌∙◌, ◌≤◌, arith, length}
+use Rattle.format.specs.Kit.{refl, sym, ◌∙◌, ◌≤◌, length}
 use Rattle.format.specs.LookUp.{look_up_in}
 use Rattle.format.specs.Layered.{look_up_layered_in}
 use Rattle.format.specs.LayeredPage.{layered_page_in}
@@ -32,11 +32,6 @@ fill_by-counted-requires c =
       record
           { ordinals_long = r.0; values_long = r.1; kinds_long = r.2 },
     )
-
-pub mark-requires : goal.mark-requires
-mark-requires c =
-    let r = room (goal.at.mark-requires c).Else-not-roomy in
-    (omega (arith, r.3), omega (arith, r.2, c.fill_by-counted.auto.kinds))
 
 pub returns-then-not-mark : goal.returns-then-not-mark
 unfolding layered_page_in

@@ -1,16 +1,16 @@
 -- `layered_reading::layered_steps` meets its contract. Invariant: the part that was read, and what the buffers hold (`Looping`). Assumes nothing.
-use Rattle.format.specs.Kit.{◌≡◌, refl, sym, ap, ◌∙◌, ◌-◌, ◌≤◌, ◌<◌, min, length, arith, rules}
+use Rattle.format.specs.Kit.{◌≡◌, refl, sym, ap, ◌∙◌, ◌≤◌, ◌<◌, min, length, arith, rules}
 use Rattle.column.specs.Opened.{column_of}
 use Rattle.layered_reading.proofs.Turns.{stays}
 use Rattle.layered_reading.proofs.Looping.{loose_begins, spent_none, has_more, correction_stops, machine_left, machine_stops, correction_left}
 use Rattle.layered_reading.proofs.Looping.{fills_up, loops}
 use Rattle.layered_reading.proofs.layered_steps.Goals as goal
-use Rattle.layered_reading.proofs.layered_steps.Goals.{After-smaller-room}
+use Rattle.layered_reading.proofs.layered_steps.Goals.{After-min-room}
 
 -- the room is the least of the three lengths
-room_is : (c : After-smaller-room) → let a = c.args in
-    c.smaller-room.result ≡ min (length a.columns.now) (min (length a.ids.now) (length a.values.now))
-room_is c = let a = c.args in c.smaller-room.ensures ∙ ap (min (length a.columns.now)) c.smaller.ensures
+room_is : (c : After-min-room) → let a = c.args in
+    c.min-room.result ≡ min (length a.columns.now) (min (length a.ids.now) (length a.values.now))
+room_is c = let a = c.args in c.min-room.ensures ∙ ap (min (length a.columns.now)) c.min.ensures
 
 pub loop-upper-init : goal.loop-upper-init
 loop-upper-init c =
@@ -29,21 +29,20 @@ pub renew-got-requires : goal.renew-got-requires
 renew-got-requires c =
     let v = c.loop-upper.invariant in
     let k = c.requires.1 in
-    let w : c.wanted.result ≤ 512 = omega (arith, c.wanted.ensures.0, c.smaller-want.ensures) in
+    let w : c.wanted.result ≤ 512 = omega (arith, c.wanted.ensures.0, c.min-want.ensures) in
     (record { rules = k.rules; whole = k.whole; in_ids = omega (arith, w, v.long_ci); in_values = omega (arith, w, v.long_cv) }, v.upper)
 
-pub returns-in_default : goal.returns-in_default
-returns-in_default c =
+pub returns-in-Err : goal.returns-in-Err
+returns-in-Err c =
     let a = c.args in
-    let e = room_is (goal.at.returns-in_default c).After-smaller-room in
+    let e = room_is (goal.at.returns-in-Err c).After-min-room in
     rw (← e)
-    (correction_stops a.machine.now (column_of a.machine_column) a.correction.now (column_of a.correction_column) c.loop-upper.invariant.reads (omega (arith, e)) (omega (arith, e)) (omega
-    (arith, e)) c.in_default.field-0 _ (rw c.in_default.is at c.renew-got.ensures)
-    (rw c.in_default.is at c.refused_by.ensures))
+    (correction_stops a.machine.now (column_of a.machine_column) a.correction.now (column_of a.correction_column) c.loop-upper.invariant.reads (omega (arith, e)) (omega (arith, e)) (omega (arith, e)) c.in-Err.why _
+    (rw c.in-Err.is at c.renew-got.ensures) c.stopped.ensures)
 
 pub rest-requires : goal.rest-requires
 rest-requires c =
-    let e = room_is (goal.at.rest-requires c).After-smaller-room in
+    let e = room_is (goal.at.rest-requires c).After-min-room in
     let d = c.loop-upper.invariant.reads in
     let k = c.requires.0 in (
       record {
@@ -59,8 +58,8 @@ rest-requires c =
 pub returns-then-spent : goal.returns-then-spent
 returns-then-spent c =
     let a = c.args in
-    let e = room_is (goal.at.returns-then-spent c).After-smaller-room in
-    let uf = rw c.in-Held.is at c.renew-got.ensures in
+    let e = room_is (goal.at.returns-then-spent c).After-min-room in
+    let uf = rw c.in-Ok.is at c.renew-got.ensures in
     rw (← e)
     (machine_left a.machine.now (column_of a.machine_column) a.correction.now (column_of a.correction_column) c.loop-upper.invariant.reads (omega (arith, e)) (omega (arith, e)) (omega (arith, e)) c.rest.result _ _ _
     (spent_none uf (sym c.spent.ensures ∙ c.if-spent.true)) c.rest.ensures)
@@ -69,22 +68,22 @@ pub renew-got-requires-in-loop-upper : goal.renew-got-requires-in-loop-upper
 renew-got-requires-in-loop-upper c =
     let v = c.loop-upper.invariant in
     let k = c.requires.0 in
-    let w : c.smaller-want.result ≤ 512
-    = omega (arith, c.smaller-want.ensures) in
+    let w : c.min-want.result ≤ 512
+    = omega (arith, c.min-want.ensures) in
     (record { rules = k.rules; whole = k.whole; in_ids = omega (arith, w, v.long_mi); in_values = omega (arith, w, v.long_mv) }, v.lower)
 
-pub returns-in_default-got : goal.returns-in_default-got
-returns-in_default-got c =
+pub returns-in-Err-got : goal.returns-in-Err-got
+returns-in-Err-got c =
     let a = c.args in
-    let e = room_is (goal.at.returns-in_default-got c).After-smaller-room in
-    let uf = rw c.in-Held.is at c.renew-got.ensures in
+    let e = room_is (goal.at.returns-in-Err-got c).After-min-room in
+    let uf = rw c.in-Ok.is at c.renew-got.ensures in
     rw (← e)
-    (machine_stops a.machine.now (column_of a.machine_column) a.correction.now (column_of a.correction_column) c.loop-upper.invariant.reads (omega (arith, e)) (omega (arith, e)) (omega (arith, e)) uf c.in_default-got.field-0 _ (rw c.in_default-got.is at c.renew-got-in-loop-upper.ensures)
-    (rw c.in_default-got.is at c.refused_by-in_default-got.ensures))
+    (machine_stops a.machine.now (column_of a.machine_column) a.correction.now (column_of a.correction_column) c.loop-upper.invariant.reads (omega (arith, e)) (omega (arith, e)) (omega (arith, e)) uf c.in-Err-got.why _
+    (rw c.in-Err-got.is at c.renew-got-in-loop-upper.ensures) c.stopped-in-Err-got.ensures)
 
 pub rest-requires-then-spent-2 : goal.rest-requires-then-spent-2
 rest-requires-then-spent-2 c =
-    let e = room_is (goal.at.rest-requires-then-spent-2 c).After-smaller-room in
+    let e = room_is (goal.at.rest-requires-then-spent-2 c).After-min-room in
     let d = c.loop-upper.invariant.reads in
     let k = c.requires.1 in (
       record {
@@ -100,9 +99,9 @@ rest-requires-then-spent-2 c =
 pub returns-then-spent-2 : goal.returns-then-spent-2
 returns-then-spent-2 c =
     let a = c.args in
-    let e = room_is (goal.at.returns-then-spent-2 c).After-smaller-room in
-    let uf = rw c.in-Held.is at c.renew-got.ensures in
-    let lf = rw c.in-Held-got.is at c.renew-got-in-loop-upper.ensures in
+    let e = room_is (goal.at.returns-then-spent-2 c).After-min-room in
+    let uf = rw c.in-Ok.is at c.renew-got.ensures in
+    let lf = rw c.in-Ok-got.is at c.renew-got-in-loop-upper.ensures in
     rw (← e)
     (correction_left a.machine.now (column_of a.machine_column) a.correction.now (column_of a.correction_column) c.loop-upper.invariant.reads (omega (arith, e))
     (omega (arith, e)) (omega (arith, e)) uf c.rest-then-spent-2.result _ _ _
@@ -111,19 +110,19 @@ returns-then-spent-2 c =
 pub returns-then-i-room : goal.returns-then-i-room
 returns-then-i-room c =
     let a = c.args in
-    let e = room_is (goal.at.returns-then-i-room c).After-smaller-room in
-    let uf = rw c.in-Held.is at c.renew-got.ensures in
-    let lf = rw c.in-Held-got.is at c.renew-got-in-loop-upper.ensures in
+    let e = room_is (goal.at.returns-then-i-room c).After-min-room in
+    let uf = rw c.in-Ok.is at c.renew-got.ensures in
+    let lf = rw c.in-Ok-got.is at c.renew-got-in-loop-upper.ensures in
     rw (← e)
     (fills_up a.machine.now (column_of a.machine_column) a.correction.now (column_of a.correction_column) c.loop-upper.invariant.reads (omega (arith, e)) (omega (arith, e)) (omega (arith, e)) uf lf _ c.long.ensures c.if-i-room.true
     (sym c.spent.ensures ∙ c.if-spent.false))
 
 pub merge-met-requires : goal.merge-met-requires
 merge-met-requires c =
-    let e = room_is (goal.at.merge-met-requires c).After-smaller-room in
+    let e = room_is (goal.at.merge-met-requires c).After-min-room in
     let d = c.loop-upper.invariant.reads in
-    let uf = rw c.in-Held.is at c.renew-got.ensures in
-    let lf = rw c.in-Held-got.is at c.renew-got-in-loop-upper.ensures in (
+    let uf = rw c.in-Ok.is at c.renew-got.ensures in
+    let lf = rw c.in-Ok-got.is at c.renew-got-in-loop-upper.ensures in (
       record {
         upto = d.most;
         in_ids = omega (arith, e, d.in_ids.kept);
@@ -137,16 +136,16 @@ merge-met-requires c =
 pub loop-upper-smaller : goal.loop-upper-smaller
 loop-upper-smaller c =
     let l = c.loop-upper in
-    let uf = rw c.in-Held.is at c.renew-got.ensures in
-    let lf = rw c.in-Held-got.is at c.renew-got-in-loop-upper.ensures in
-    let h : l.i < c.smaller-room.result = omega (
+    let uf = rw c.in-Ok.is at c.renew-got.ensures in
+    let lf = rw c.in-Ok-got.is at c.renew-got-in-loop-upper.ensures in
+    let h : l.i < c.min-room.result = omega (
       arith,
       c.if-i-room.false,
       l.invariant.reads.most,
     ) in
-    let w : 0 < c.smaller-want.result = omega (
+    let w : 0 < c.min-want.result = omega (
       arith,
-      c.smaller-want.ensures,
+      c.min-want.ensures,
       h,
     ) in
     let u = c.wanted.ensures.1 w in
@@ -159,10 +158,10 @@ loop-upper-smaller c =
 pub loop-upper-preserved : goal.loop-upper-preserved
 loop-upper-preserved c =
     let a = c.args in
-    let e = room_is (goal.at.loop-upper-preserved c).After-smaller-room in
+    let e = room_is (goal.at.loop-upper-preserved c).After-min-room in
     let v = c.loop-upper.invariant in
-    let uf = rw c.in-Held.is at c.renew-got.ensures in
-    let lf = rw c.in-Held-got.is at c.renew-got-in-loop-upper.ensures in
+    let uf = rw c.in-Ok.is at c.renew-got.ensures in
+    let lf = rw c.in-Ok-got.is at c.renew-got-in-loop-upper.ensures in
     loops a.machine.now (column_of a.machine_column) a.correction.now (column_of a.correction_column) v.reads (omega (arith, e))
     (omega (arith, e)) (omega (arith, e)) uf lf c.merge-met.result _ _ _ _ _ c.merge-met.ensures refl refl
     (c.renew-got-in-loop-upper.auto.ids ∙ v.long_mi) (c.renew-got-in-loop-upper.auto.values ∙ v.long_mv) (c.renew-got.auto.ids ∙ v.long_ci) (c.renew-got.auto.values ∙ v.long_cv)
@@ -179,17 +178,17 @@ slice_bounds-renew-end-in-loop-upper c = sym c.loop-upper.invariant.long_cv
 pub wanted-requires : goal.wanted-requires
 wanted-requires c = (
   omega (arith, c.loop-upper.invariant.upper.within.in_ids, c.loop-upper.invariant.long_ci),
-  omega (arith, c.smaller-want.ensures),
+  omega (arith, c.min-want.ensures),
 )
 
-pub shape_of-ids-in_default : goal.shape_of-ids-in_default
-shape_of-ids-in_default c = c.loop-upper.invariant.reads.in_ids.kept
+pub shape_of-ids-in-Err : goal.shape_of-ids-in-Err
+shape_of-ids-in-Err c = c.loop-upper.invariant.reads.in_ids.kept
 
-pub shape_of-values-in_default : goal.shape_of-values-in_default
-shape_of-values-in_default c = c.loop-upper.invariant.reads.in_values.kept
+pub shape_of-values-in-Err : goal.shape_of-values-in-Err
+shape_of-values-in-Err c = c.loop-upper.invariant.reads.in_values.kept
 
-pub shape_of-columns-in_default : goal.shape_of-columns-in_default
-shape_of-columns-in_default c = c.loop-upper.invariant.reads.in_columns.kept
+pub shape_of-columns-in-Err : goal.shape_of-columns-in-Err
+shape_of-columns-in-Err c = c.loop-upper.invariant.reads.in_columns.kept
 
 pub shape_of-ids-then-spent : goal.shape_of-ids-then-spent
 shape_of-ids-then-spent c = c.rest.auto.ids ∙ c.loop-upper.invariant.reads.in_ids.kept
@@ -206,14 +205,14 @@ slice_bounds-renew-end-in-loop-upper-2 c = sym c.loop-upper.invariant.long_mi
 pub slice_bounds-renew-end-in-loop-upper-3 : goal.slice_bounds-renew-end-in-loop-upper-3
 slice_bounds-renew-end-in-loop-upper-3 c = sym c.loop-upper.invariant.long_mv
 
-pub shape_of-ids-in_default-got : goal.shape_of-ids-in_default-got
-shape_of-ids-in_default-got c = c.loop-upper.invariant.reads.in_ids.kept
+pub shape_of-ids-in-Err-got : goal.shape_of-ids-in-Err-got
+shape_of-ids-in-Err-got c = c.loop-upper.invariant.reads.in_ids.kept
 
-pub shape_of-values-in_default-got : goal.shape_of-values-in_default-got
-shape_of-values-in_default-got c = c.loop-upper.invariant.reads.in_values.kept
+pub shape_of-values-in-Err-got : goal.shape_of-values-in-Err-got
+shape_of-values-in-Err-got c = c.loop-upper.invariant.reads.in_values.kept
 
-pub shape_of-columns-in_default-got : goal.shape_of-columns-in_default-got
-shape_of-columns-in_default-got c = c.loop-upper.invariant.reads.in_columns.kept
+pub shape_of-columns-in-Err-got : goal.shape_of-columns-in-Err-got
+shape_of-columns-in-Err-got c = c.loop-upper.invariant.reads.in_columns.kept
 
 pub shape_of-ids-then-spent-2 : goal.shape_of-ids-then-spent-2
 shape_of-ids-then-spent-2 c = c.rest-then-spent-2.auto.ids ∙ c.loop-upper.invariant.reads.in_ids.kept

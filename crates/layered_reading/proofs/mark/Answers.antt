@@ -13,25 +13,19 @@ pub loop-j-preserved : goal.loop-j-preserved
 loop-j-preserved c =
     let l = c.loop-j in
     let a = c.args in
-    (one_more _ _ _ _ _ _ l.invariant.0 a.column _ (more a.end l.j a.column (omega (arith, c.loop-j-test.true))), omega (arith, c.loop-j-test.true))
+    one_more _ _ _ _ _ _ l.invariant a.column _ (more a.end l.j a.column (omega (arith, c.loop-j-test.true)))
 
 pub returns : goal.returns
 returns c =
     let l = c.loop-j in
     let a = c.args in
-    filled _ _ _ _ _ _ l.invariant.0 (none_left a.end l.j a.column (omega (arith, c.loop-j-test.false)))
+    filled _ _ _ _ _ _ l.invariant (none_left a.end l.j a.column (omega (arith, c.loop-j-test.false)))
 
 pub loop-j-init : goal.loop-j-init
-loop-j-init c = (begun _ _ _ _ refl, omega (arith, c.requires.0))
+loop-j-init c = begun _ _ _ _ refl
 
 pub bounds-columns-j : goal.bounds-columns-j
-bounds-columns-j c = omega (arith, c.loop-j.invariant.0.kept, c.requires.1, c.loop-j-test.true)
-
-pub overflow_add-j : goal.overflow_add-j
-overflow_add-j c = omega (arith, c.loop-j-test.true)
-
-pub loop-j-smaller : goal.loop-j-smaller
-loop-j-smaller c = omega (arith, c.loop-j-test.true)
+bounds-columns-j c = omega (arith, c.loop-j.invariant.kept, c.requires.1, c.loop-j-test.true)
 
 pub shape_of-columns : goal.shape_of-columns
-shape_of-columns c = c.loop-j.invariant.0.kept
+shape_of-columns c = c.loop-j.invariant.kept

@@ -40,14 +40,14 @@ pub overflow_add-end : goal.overflow_add-end
 overflow_add-end c =
     let g = c.loop-i.invariant in
     let t = c.loop-i-test.true in
-    let e = c.smaller.ensures in
+    let e = c.min.ensures in
     omega (arith, e, t, g.in_machine)
 
 pub fours-four-requires : goal.fours-four-requires
 fours-four-requires c =
     let g = c.loop-i.invariant in
     let t = c.loop-i-test.true in
-    let e = c.smaller.ensures in
+    let e = c.min.ensures in
     record {
       from = omega (arith, e, t, g.in_machine);
       in_buffer = omega (arith, e, t, g.in_machine, c.requires.1.in_ids);
@@ -64,7 +64,7 @@ pub overflow_add-i : goal.overflow_add-i
 overflow_add-i c =
     let g = c.loop-i.invariant in
     let t = c.loop-i-test.true in
-    let e = c.smaller.ensures in
+    let e = c.min.ensures in
     let q = c.fours-four.ensures in
     omega (arith, e, t, g.in_machine, q.from, q.upto)
 
@@ -72,7 +72,7 @@ pub ones-k-requires : goal.ones-k-requires
 ones-k-requires c =
     let g = c.loop-i.invariant in
     let t = c.loop-i-test.true in
-    let e = c.smaller.ensures in
+    let e = c.min.ensures in
     let b : c.loop-i.c < c.args.correction.count = omega (arith, c.if-c-correction.false, g.in_correction) in
     let f = takes_run c.requires.0 c.requires.1 c.requires.2 g b (omega (arith, e, t, g.in_machine)) (omega (arith, e, g.in_machine)) c.fours-four.ensures in
     let q = c.fours-four.ensures in
@@ -89,7 +89,7 @@ pub target_after-target-requires : goal.target_after-target-requires
 target_after-target-requires c =
     let g = c.loop-i.invariant in
     let t = c.loop-i-test.true in
-    let e = c.smaller.ensures in
+    let e = c.min.ensures in
     let q = c.fours-four.ensures in
     let o = c.ones-k.ensures in
     (omega (arith, q.from, o.0.from), omega (arith, e, g.in_machine, o.0.upto, c.requires.1.in_ids))
@@ -102,7 +102,7 @@ pub overflow_add-i-in-loop-i : goal.overflow_add-i-in-loop-i
 overflow_add-i-in-loop-i c =
     let g = c.loop-i.invariant in
     let t = c.loop-i-test.true in
-    let e = c.smaller.ensures in
+    let e = c.min.ensures in
     let q = c.fours-four.ensures in
     let o = c.ones-k.ensures in
     omega (arith, e, t, g.in_machine, q.from, q.upto, o.0.from, o.0.upto)
@@ -111,7 +111,7 @@ pub loop-i-smaller-then-k-end : goal.loop-i-smaller-then-k-end
 loop-i-smaller-then-k-end c =
     let g = c.loop-i.invariant in
     let t = c.loop-i-test.true in
-    let e = c.smaller.ensures in
+    let e = c.min.ensures in
     let q = c.fours-four.ensures in
     let o = c.ones-k.ensures in
     omega (arith, e, t, g.in_machine, q.from, q.upto, o.0.from, o.0.upto, c.if-m-machine.false, c.if-k-end.true)
@@ -120,7 +120,7 @@ pub loop-i-preserved-then-k-end : goal.loop-i-preserved-then-k-end
 loop-i-preserved-then-k-end c =
     let g = c.loop-i.invariant in
     let t = c.loop-i-test.true in
-    let e = c.smaller.ensures in
+    let e = c.min.ensures in
     let b : c.loop-i.c < c.args.correction.count = omega (arith, c.if-c-correction.false, g.in_correction) in
     let f = takes_run c.requires.0 c.requires.1 c.requires.2 g b (omega (arith, e, t, g.in_machine)) (omega (arith, e, g.in_machine)) c.fours-four.ensures in
     let o = c.ones-k.ensures in
@@ -138,7 +138,7 @@ pub offset_bounds-machine_ids-k : goal.offset_bounds-machine_ids-k
 offset_bounds-machine_ids-k c =
     let g = c.loop-i.invariant in
     let t = c.loop-i-test.true in
-    let e = c.smaller.ensures in
+    let e = c.min.ensures in
     let q = c.fours-four.ensures in
     let o = c.ones-k.ensures in
     omega (arith, e, t, g.in_machine, q.from, q.upto, o.0.from, o.0.upto, c.if-k-end.false, c.requires.1.in_ids)
@@ -147,7 +147,7 @@ pub bounds-machine_ids-k : goal.bounds-machine_ids-k
 bounds-machine_ids-k c =
     let g = c.loop-i.invariant in
     let t = c.loop-i-test.true in
-    let e = c.smaller.ensures in
+    let e = c.min.ensures in
     let q = c.fours-four.ensures in
     let o = c.ones-k.ensures in
     omega (arith, e, t, g.in_machine, q.from, q.upto, o.0.from, o.0.upto, c.if-k-end.false, c.requires.1.in_ids)
@@ -168,7 +168,7 @@ pub put-requires : goal.put-requires
 put-requires c =
     let g = c.loop-i.invariant in
     let t = c.loop-i-test.true in
-    let e = c.smaller.ensures in
+    let e = c.min.ensures in
     let b : c.loop-i.c < c.args.correction.count = omega (arith, c.if-c-correction.false, g.in_correction) in
     let f = takes_run c.requires.0 c.requires.1 c.requires.2 g b (omega (arith, e, t, g.in_machine)) (omega (arith, e, g.in_machine)) c.fours-four.ensures in
     let o = c.ones-k.ensures in
@@ -180,7 +180,7 @@ put-requires c =
     run_on c.loop-i.target c.loop-i.m c.fours-four.result c.ones-k.result c.args.machine_ids.now q.from o.0.from
     ∙ sym c.target_after-target.ensures in
     let w = rw (ei, et) at h in
-    let left = place_left c.args.room c.loop-i.i c.loop-i.m c.args.machine.count c.smaller.result c.ones-k.result e t
+    let left = place_left c.args.room c.loop-i.i c.loop-i.m c.args.machine.count c.min.result c.ones-k.result e t
     (omega (arith, q.from, o.0.from)) o.0.upto c.if-k-end.false in (
       under _ _ _ _ left c.requires.0.in_ids w.long_ids,
       under _ _ _ _ left c.requires.0.in_values w.long_values,
@@ -191,7 +191,7 @@ pub past-m-requires : goal.past-m-requires
 past-m-requires c =
     let g = c.loop-i.invariant in
     let t = c.loop-i-test.true in
-    let e = c.smaller.ensures in
+    let e = c.min.ensures in
     let q = c.fours-four.ensures in
     let o = c.ones-k.ensures in
     omega (arith, e, t, g.in_machine, q.from, q.upto, o.0.from, o.0.upto, c.requires.1.in_ids, c.if-k-end.false)
@@ -206,7 +206,7 @@ pub overflow_add-i-in-loop-i-2 : goal.overflow_add-i-in-loop-i-2
 overflow_add-i-in-loop-i-2 c =
     let g = c.loop-i.invariant in
     let t = c.loop-i-test.true in
-    let e = c.smaller.ensures in
+    let e = c.min.ensures in
     let q = c.fours-four.ensures in
     let o = c.ones-k.ensures in
     omega (arith, e, t, g.in_machine, q.from, q.upto, o.0.from, o.0.upto, c.if-k-end.false)
@@ -215,7 +215,7 @@ pub loop-i-smaller : goal.loop-i-smaller
 loop-i-smaller c =
     let g = c.loop-i.invariant in
     let t = c.loop-i-test.true in
-    let e = c.smaller.ensures in
+    let e = c.min.ensures in
     let q = c.fours-four.ensures in
     let o = c.ones-k.ensures in
     omega (arith, e, t, g.in_machine, q.from, q.upto, o.0.from, o.0.upto, c.if-k-end.false)
@@ -224,7 +224,7 @@ pub loop-i-preserved : goal.loop-i-preserved
 loop-i-preserved c =
     let g = c.loop-i.invariant in
     let t = c.loop-i-test.true in
-    let e = c.smaller.ensures in
+    let e = c.min.ensures in
     let b : c.loop-i.c < c.args.correction.count = omega (arith, c.if-c-correction.false, g.in_correction) in
     let f = takes_run c.requires.0 c.requires.1 c.requires.2 g b (omega (arith, e, t, g.in_machine)) (omega (arith, e, g.in_machine)) c.fours-four.ensures in
     let o = c.ones-k.ensures in
@@ -236,12 +236,12 @@ loop-i-preserved c =
     run_on c.loop-i.target c.loop-i.m c.fours-four.result c.ones-k.result c.args.machine_ids.now q.from o.0.from
     ∙ sym c.target_after-target.ensures in
     let w = rw (ei, et) at h in
-    let left = place_left c.args.room c.loop-i.i c.loop-i.m c.args.machine.count c.smaller.result c.ones-k.result e t
+    let left = place_left c.args.room c.loop-i.i c.loop-i.m c.args.machine.count c.min.result c.ones-k.result e t
     (omega (arith, q.from, o.0.from)) o.0.upto c.if-k-end.false in
     let d = c.put.ensures in
     let z = to_z-of_z {w = w64} {z = get_or c.args.correction_values.now c.loop-i.c (pos 0)} (record { sfits = c.v-1.given }) in
     takes_correction c.requires.0 c.requires.1 c.requires.2 w left
-    (pair_left c.args.room c.loop-i.i c.loop-i.m c.args.machine.count c.smaller.result c.ones-k.result e g.in_machine o.0.upto c.if-k-end.false) b _ _ _ _ _
+    (pair_left c.args.room c.loop-i.i c.loop-i.m c.args.machine.count c.min.result c.ones-k.result e g.in_machine o.0.upto c.if-k-end.false) b _ _ _ _ _
     (λ n. not_under _ _ (o.1 (not_there _ _ o.0.upto c.if-k-end.false)) n) c.past-m.ensures
     (ap (λ (n : ℕ). n + 1) c.wide32-target.ensures.0)
     (put_as z d)

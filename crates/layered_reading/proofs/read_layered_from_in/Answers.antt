@@ -1,16 +1,17 @@
 -- `layered_reading::read_layered_from_in` meets its contract. Assumes nothing.
-use Rattle.format.specs.Kit.{◌≡◌, sym, ◌∙◌, true, leb, leb-true, min, length, rules}
+use Rattle.format.specs.Kit.{◌≡◌, sym, ◌∙◌, true, leb, leb-true, min, length}
 use Rattle.format.specs.Limits.{max_id}
 use Rattle.format.specs.Opening.{head_ok, length_ok}
 use Rattle.column.specs.Opened.{column_of}
 use Rattle.answers.specs.declared.Refusal as Re
 use Rattle.layered.specs.declared.Layer as La
-use Rattle.layered.specs.declared.LayeredReadout as Lr
 use Rattle.layered_reading.proofs.Calling.{leaves_as, refused_leaves, read_both, id_above_in, header_above_in, length_above_in, header_below_in}
 use Rattle.layered_reading.proofs.Calling.{length_below_in}
 use Rattle.layered_reading.proofs.Calling.{steps_in}
 use Rattle.layered_reading.proofs.read_layered_from_in.Goals as goal
 use Rattle.layered_reading.proofs.read_layered_from_in.Goals.{Else-not-head_ok, Else-not-head_ok-2, Else-not-id_ok, Else-not-length_ok, Else-not-length_ok-2}
+use Rattle.std.specs.Prelude.{Err}
+use Rattle.layered.specs.Answers.{refused_in}
 
 in_range : (c : Else-not-id_ok) → leb c.args.from max_id ≡ true
 in_range c = sym c.id_ok.ensures ∙ c.if-not-id_ok.false
@@ -30,21 +31,21 @@ whole c = sym c.length_ok-2.ensures ∙ c.if-not-length_ok-2.false
 pub returns-then-not-id_ok : goal.returns-then-not-id_ok
 returns-then-not-id_ok c =
     let a = c.args in
-    refused_leaves _ (Lr.LayeredReadout.Refused La.Layer.Correction Re.Refusal.Id) a.ids.now a.values.now a.columns.now
+    refused_leaves _ (Err (refused_in La.Layer.Correction Re.Refusal.Id)) a.ids.now a.values.now a.columns.now
     (id_above_in a.machine.now (column_of a.machine_column) a.correction.now (column_of a.correction_column) a.from _
     (sym c.id_ok.ensures ∙ c.if-not-id_ok.true))
 
 pub returns-then-not-head_ok : goal.returns-then-not-head_ok
 returns-then-not-head_ok c =
     let a = c.args in
-    refused_leaves _ (Lr.LayeredReadout.Refused La.Layer.Correction Re.Refusal.Header) a.ids.now a.values.now a.columns.now
+    refused_leaves _ (Err (refused_in La.Layer.Correction Re.Refusal.Header)) a.ids.now a.values.now a.columns.now
     (header_above_in a.machine.now (column_of a.machine_column) a.correction.now (column_of a.correction_column) a.from _ (in_range (goal.at.returns-then-not-head_ok c).Else-not-id_ok)
     (sym c.head_ok.ensures ∙ c.if-not-head_ok.true))
 
 pub returns-then-not-length_ok : goal.returns-then-not-length_ok
 returns-then-not-length_ok c =
     let a = c.args in
-    refused_leaves _ (Lr.LayeredReadout.Refused La.Layer.Correction Re.Refusal.Length) a.ids.now a.values.now a.columns.now
+    refused_leaves _ (Err (refused_in La.Layer.Correction Re.Refusal.Length)) a.ids.now a.values.now a.columns.now
     (length_above_in a.machine.now (column_of a.machine_column) a.correction.now (column_of a.correction_column) a.from _ (in_range (goal.at.returns-then-not-length_ok c).Else-not-id_ok)
     (above_rules (goal.at.returns-then-not-length_ok c).Else-not-head_ok) (sym c.length_ok.ensures ∙ c.if-not-length_ok.true))
 

@@ -1,6 +1,7 @@
 -- `layered_reading::refill` meets its contract. Assumes nothing.
 use Rattle.format.specs.Kit.{refl, sym, ◌∙◌, true, false, arith}
 use Rattle.column.specs.Opened.{column_of}
+use Rattle.answers.proofs.PassedOn.{passed_on}
 use Rattle.answers.specs.Replies.{refusal_number, refusal_with}
 use Rattle.layered_reading.proofs.Fills.{few_read, some_or_ended, answers_so, refused_so, read_holds}
 use Rattle.layered_reading.proofs.refill.Goals as goal
@@ -9,8 +10,8 @@ pub returns-in-More : goal.returns-in-More
 returns-in-More c =
     let a = c.args in
     let col = column_of a.column in
-    let w = c.read_up_to-got in
-    let A = answers_so a.bytes.now col a.target a.want c.in-More.n false (rw c.in-More.is at w.ensures.0) in
+    let w = c.read_up_to in
+    let A = answers_so a.bytes.now col a.target a.want c.in-More.n false (rw c.in-More.is at c.in_ok-n.ensures.0) in
     let few = few_read a.bytes.now col a.want a.target in
     rw c.size.ensures
     (record {
@@ -28,8 +29,8 @@ pub returns-in-Ended : goal.returns-in-Ended
 returns-in-Ended c =
     let a = c.args in
     let col = column_of a.column in
-    let w = c.read_up_to-got in
-    let A = answers_so a.bytes.now col a.target a.want c.in-Ended.n true (rw c.in-Ended.is at w.ensures.0) in
+    let w = c.read_up_to in
+    let A = answers_so a.bytes.now col a.target a.want c.in-Ended.n true (rw c.in-Ended.is at c.in_ok-n.ensures.0) in
     let few = few_read a.bytes.now col a.want a.target in
     rw c.size-in-Ended.ensures
     (record {
@@ -43,8 +44,9 @@ returns-in-Ended c =
       some = λ h z. refl;
     })
 
-pub returns-in-Refused : goal.returns-in-Refused
-returns-in-Refused c =
+pub returns-in_err-n : goal.returns-in_err-n
+returns-in_err-n c =
     let a = c.args in
-    let w = c.read_up_to-got in
-    refused_so a.bytes.now (column_of a.column) a.target a.want (refusal_number c.in-Refused.why) (refusal_with c.in-Refused.why) (rw c.in-Refused.is at w.ensures.0)
+    let why = c.in_err-n.field-0.0 in
+    let e = passed_on c.from_residual.result _ c.from_residual.ensures.1 in
+    rw e (refused_so a.bytes.now (column_of a.column) a.target a.want (refusal_number why) (refusal_with why) c.in_err-n.ensures.0)

@@ -1,5 +1,5 @@
 -- `layered_reading::rest` meets its contract. Assumes nothing.
-use Rattle.format.specs.Kit.{◌≡◌, ℕ, ◌+◌, ◌-◌, ◌≤◌, ap, sym, ◌∙◌, true, false, List, length, take, take_all, drop, length-drop, sets, replicate, arith, rules}
+use Rattle.format.specs.Kit.{◌≡◌, ℕ, ◌+◌, ◌-◌, ◌≤◌, ap, sym, ◌∙◌, true, false, List, length, take, take_all, drop, length-drop, sets, replicate, arith}
 use Rattle.column.specs.Opened.{column_of}
 use Rattle.answers.specs.Replies.{refusal_number, refusal_with}
 use Rattle.layered.specs.Answers.{layer_of}
@@ -40,13 +40,13 @@ more : (c : After-size) → let a = c.args in Answers a.bytes.now (column_of a.c
 more c =
     let a = c.args in
     answers_so a.bytes.now (column_of a.column) a.target (a.room - a.i) c.in-More.n false
-    (rw c.in-More.is at c.read_up_to-got.ensures.0)
+    (rw (c.in-Ok.is, c.in-More.is) at c.read_up_to-got.ensures.0)
 
 ended : (c : After-size-in-Ended) → let a = c.args in Answers a.bytes.now (column_of a.column) a.target (a.room - a.i) c.in-Ended.n true
 ended c =
     let a = c.args in
     answers_so a.bytes.now (column_of a.column) a.target (a.room - a.i) c.in-Ended.n true
-    (rw c.in-Ended.is at c.read_up_to-got.ensures.0)
+    (rw (c.in-Ok.is, c.in-Ended.is) at c.read_up_to-got.ensures.0)
 
 -- they have room
 fits : (c : After-size) → let a = c.args in a.i + c.size.result ≤ a.room
@@ -83,15 +83,15 @@ returns-in-Ended c =
     w.ensures.1.1 (c.long-in-Ended.ensures ∙ ap (λ (n : ℕ). a.i + n) c.size-in-Ended.ensures) number.ensures
     (c.mark-in-Ended.ensures ∙ ap (λ (k : ℕ). sets a.columns.now a.i (replicate (k - a.i) number.result)) (sym c.long-in-Ended.ensures)) al
 
-pub returns-in-Refused : goal.returns-in-Refused
-returns-in-Refused c =
+pub returns-in-Err : goal.returns-in-Err
+returns-in-Err c =
     let a = c.args in
     let p = c.requires.0 in
     let w = c.read_up_to-got in
     λ next al.
     rest_refused next a.room a.i a.target a.ids.now a.values.now a.columns.now p.upto p.in_ids p.in_values a.layer
-    a.bytes.now (column_of a.column) _ _ c.in-Refused.why c.stopped.result
-    (refused_so a.bytes.now (column_of a.column) a.target (a.room - a.i) (refusal_number c.in-Refused.why) (refusal_with c.in-Refused.why) (rw c.in-Refused.is at
+    a.bytes.now (column_of a.column) _ _ c.in-Err.why c.stopped.result
+    (refused_so a.bytes.now (column_of a.column) a.target (a.room - a.i) (refusal_number c.in-Err.why) (refusal_with c.in-Err.why) (rw c.in-Err.is at
     w.ensures.0))
     w.ensures.1.0 w.ensures.1.1 c.stopped.ensures al
 

@@ -1,5 +1,4 @@
 -- `lookup::block_for` meets its contract: after each step of the code, what is left of `format`'s steps. Assumes nothing.
-use Rattle.format.specs.Kit.{arith}
 use Rattle.lookup.specs.Steps.{with_place, Reached}
 use Rattle.lookup.proofs.Parts.{not_chosen, no_room_there, chosen}
 use Rattle.lookup.proofs.block_for.Goals as goal
@@ -15,9 +14,6 @@ returns-in_default c r =
     let a = c.args in
     not_chosen a.s.now (with_place a.q r) _ c.entry_at.ensures c.step_at-met.result c.in_default.not-At c.step_at-met.ensures
 
-pub room_for-requires : goal.room_for-requires
-room_for-requires c = let r = reached c in (c.requires.power, omega arith, omega arith, r.many)
-
 pub returns-in_default-room_for : goal.returns-in_default-room_for
 returns-in_default-room_for c r =
     let a = c.args in
@@ -28,5 +24,5 @@ pub returns : goal.returns
 returns c r =
     let a = c.args in
     chosen a.s.now (with_place a.q r) _ c.entry_at.ensures c.in-At.block
-    (rw c.in-At.is at c.step_at-met.ensures).0 (reached (goal.at.returns c).In-At) c.in-Enough.block
-    (rw c.in-Enough.is at c.room_for.ensures)
+    (rw c.in-At.is at c.step_at-met.ensures).0 (reached (goal.at.returns c).In-At) c.in-Some.block
+    (rw c.in-Some.is at c.room_for.ensures)

@@ -13,7 +13,7 @@ pub returns : goal.returns
 returns c =
     let a = c.args in
     let e = entry_some a.s.now a.a a.j a.b c.if-j-eq0.false in
-    let m = c.smaller.ensures in
+    let m = c.min.ensures in
     let l = c.int_at-start.ensures in
     let n = c.size.ensures in
     record { ordinal = rw (e, ← m) c.int_at-ordinal.ensures.0; start = rw (e, ← m) (n ∙ l.0); few = c.int_at-ordinal.ensures.1; near = rw n l.1 }

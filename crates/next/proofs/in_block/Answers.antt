@@ -10,7 +10,7 @@ use Rattle.next_in_block.specs.First.{first_of}
 use Rattle.next.specs.Blocks.{AskedOf}
 use Rattle.next.proofs.OneBlock.{placed, block_refused, block_passed, block_no_room, block_placed, place_there, place_broken}
 use Rattle.next.proofs.in_block.Goals as goal
-use Rattle.next.proofs.in_block.Goals.{After-first_in-first, In-At, In-At-first, In-Enough}
+use Rattle.next.proofs.in_block.Goals.{After-first_in-first, In-At, In-At-first, In-Some}
 
 reached_at : (c : In-At) → Reached c.args.s.now c.args.q.entries c.args.b c.entry_at.result c.in-At.block
 reached_at c = (rw c.in-At.is at c.step_at-met.ensures).1
@@ -19,30 +19,30 @@ on_at : (c : In-At) → let a = c.args in
     (next : Outcome Look) → at_block a.s.now a.q.entries a.q.jumps a.b c.entry_at.result.start next ≡ next
 on_at c = (rw c.in-At.is at c.step_at-met.ensures).0
 
-enough : (c : In-Enough) → let q = c.args.q in
-    Roomy q.entries q.power q.count c.in-At.block c.in-Enough.block
-enough c = rw c.in-Enough.is at c.room_for.ensures
+enough : (c : In-Some) → let q = c.args.q in
+    Roomy q.entries q.power q.count c.in-At.block c.in-Some.block
+enough c = rw c.in-Some.is at c.room_for.ensures
 
 -- step 7 is left
 place_left : (c : After-first_in-first) (bytes : List ℕ) (col : Opened)
     → let a = c.args in
     AskedOf col a.q → id_part bytes col ≡ a.s.now → (more : Outcome Candidate)
-    → placed bytes col a.b c.in-Enough.block.ordinal (first_of c.first_in-first.result) more
+    → placed bytes col a.b c.in-Some.block.ordinal (first_of c.first_in-first.result) more
     ≡ in_turn (65536 - a.r) bytes col (a.b * 65536 + a.r) more
 place_left c bytes col x h more =
     let e = c.entry_at in
-    let m = c.in-Enough.block in
+    let m = c.in-Some.block in
     ap (λ y. placed bytes col c.args.b m.ordinal y more) c.first_in-first.ensures.0
     ∙ block_placed bytes col c.args.s.now c.args.q c.args.b e.result x h e.ensures c.args.r c.requires.2 more
-    c.in-At.block (on_at (goal.at.After-first_in-first c).In-At) (reached_at (goal.at.After-first_in-first c).In-At) m (enough (goal.at.After-first_in-first c).In-Enough)
+    c.in-At.block (on_at (goal.at.After-first_in-first c).In-At) (reached_at (goal.at.After-first_in-first c).In-At) m (enough (goal.at.After-first_in-first c).In-Some)
 
 -- a place of the block, and an ordinal below n, so no sum wraps
 place_in : (c : In-At-first)
-    → let b = c.in-Enough.block in
+    → let b = c.in-Some.block in
     let q = c.args.q in
     (c.in-At-first.place < 65536) × (c.in-At-first.inner + 1 ≤ b.count) × (b.ordinal + b.count ≤ q.count)
 place_in c =
-    let g = enough (goal.at.In-At-first c).In-Enough in
+    let g = enough (goal.at.In-At-first c).In-Some in
     let i = rw c.in-At-first.is at c.first_in-first.ensures.1 in
     (i.0, omega (arith, i.1), rw g.same g.last)
 
@@ -69,9 +69,6 @@ returns-in_default-met c =
       listed = tt;
     }
 
-pub room_for-requires : goal.room_for-requires
-room_for-requires c = let r = reached_at c in (c.requires.0.power, omega arith, omega arith, r.many)
-
 pub returns-in_default-room_for : goal.returns-in_default-room_for
 returns-in_default-room_for c =
     let a = c.args in
@@ -84,16 +81,9 @@ returns-in_default-room_for c =
       listed = tt;
     }
 
-pub first_in-first-requires : goal.first_in-first-requires
-first_in-first-requires c =
-    let g = enough c in
-    let k = reached_at (goal.at.first_in-first-requires c).In-At in
-    let f = c.requires in
-    (f.0.power, f.2, rw g.same k.kind, rw g.same (omega (arith, g.data_end, f.0.entries)))
-
 pub returns-in-Nothing : goal.returns-in-Nothing
 returns-in-Nothing c =
-    let o = c.in-Enough.block.ordinal in
+    let o = c.in-Some.block.ordinal in
     let b = c.args.b in
     record {
       left = λ bytes col x h more.
@@ -110,17 +100,9 @@ returns-in_default-first-2 c =
       listed = tt;
     }
 
-pub id_of-requires : goal.id_of-requires
-id_of-requires c =
-    (c.requires.1, (place_in c).0)
-
-pub overflow_add-result : goal.overflow_add-result
-overflow_add-result c =
-    omega (arith, place_in (goal.at.overflow_add-result c).In-At-first, c.requires.0.count)
-
 pub returns : goal.returns
 returns c =
-    let o = c.in-Enough.block.ordinal in
+    let o = c.in-Some.block.ordinal in
     let b = c.args.b in
     record {
       left = λ bytes col x h more.

@@ -10,7 +10,7 @@ use Rattle.column.proofs.Facts.{opened_as_lem, refused_as_lem}
 use Rattle.lookup.proofs.Calls.{opened_fits}
 use Rattle.next.proofs.Answers.{told_as}
 use Rattle.next.proofs.next.Goals as goal
-use Rattle.next.proofs.next.Goals.{Else-goes_back, Else-not-id_ok, In-Open, Then-goes_back}
+use Rattle.next.proofs.next.Goals.{Else-goes_back, Else-not-id_ok, In-Ok, Then-goes_back}
 
 in_range : (c : Else-not-id_ok) → leb c.args.target max_id ≡ true
 in_range c = sym c.id_ok.ensures ∙ c.if-not-id_ok.false
@@ -25,11 +25,11 @@ back c =
     let a = c.args in
     lt-leb a.cursor.last a.target (ltb-true a.target a.cursor.last (sym c.goes_back.ensures ∙ c.if-goes_back.true))
 
-open_at : (c : In-Open) → let a = c.args in
-    open_column editions a.bytes.now ≡ done (column_of c.in-Open.column)
+open_at : (c : In-Ok) → let a = c.args in
+    open_column editions a.bytes.now ≡ done (column_of c.in-Ok.column)
 open_at c =
-    let o = c.open-opened in
-    opened_as_lem _ o.result c.in-Open.column o.ensures c.in-Open.is
+    let o = c.open in
+    opened_as_lem _ o.result c.in-Ok.column o.ensures c.in-Ok.is
 
 pub returns-then-not-id_ok : goal.returns-then-not-id_ok
 returns-then-not-id_ok c =
@@ -51,20 +51,20 @@ steps_from-requires c =
     let f = opened_fits _ _ (open_at c) in
     (f.0, f.1, leb-true _ max_id (in_range (goal.at.steps_from-requires c).Else-not-id_ok))
 
-pub returns-in-Refused : goal.returns-in-Refused
-returns-in-Refused c =
+pub returns-in-Err : goal.returns-in-Err
+returns-in-Err c =
     let a = c.args in
-    let o = c.open-opened in
-    told_as _ _ _ _ c.refused-in-Refused.result
-    (sym (not_opened editions a.bytes.now a.cursor.last a.target (in_range (goal.at.returns-in-Refused c).Else-not-id_ok) (not_back (goal.at.returns-in-Refused c).Else-goes_back) _ _
-    (refused_as_lem a.bytes.now o.result c.in-Refused.why o.ensures c.in-Refused.is)))
-    (c.refused-in-Refused.ensures a.target)
+    let o = c.open in
+    told_as _ _ _ _ c.refused-in-Err.result
+    (sym (not_opened editions a.bytes.now a.cursor.last a.target (in_range (goal.at.returns-in-Err c).Else-not-id_ok) (not_back (goal.at.returns-in-Err c).Else-goes_back) _ _
+    (refused_as_lem a.bytes.now o.result c.in-Err.why o.ensures c.in-Err.is)))
+    (c.refused-in-Err.ensures a.target)
 
-pub returns-in-Open : goal.returns-in-Open
-returns-in-Open c =
+pub returns-in-Ok : goal.returns-in-Ok
+returns-in-Ok c =
     let a = c.args in
-    let col = column_of c.in-Open.column in
+    let col = column_of c.in-Ok.column in
     told_as _ _ _ _ c.answered.result
     (c.steps_from.ensures
-    ∙ sym (opened editions a.bytes.now a.cursor.last a.target (in_range (goal.at.returns-in-Open c).Else-not-id_ok) (not_back (goal.at.returns-in-Open c).Else-goes_back) col (open_at (goal.at.returns-in-Open c).In-Open)))
+    ∙ sym (opened editions a.bytes.now a.cursor.last a.target (in_range (goal.at.returns-in-Ok c).Else-not-id_ok) (not_back (goal.at.returns-in-Ok c).Else-goes_back) col (open_at (goal.at.returns-in-Ok c).In-Ok)))
     c.answered.ensures

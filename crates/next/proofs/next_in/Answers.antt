@@ -1,5 +1,5 @@
 -- `next::next_in` meets its contract. Assumes nothing.
-use Rattle.format.specs.Kit.{◌≡◌, sym, ◌∙◌, true, false, leb, leb-true, le-leb, lt-leb, ltb-true, ltb-false}
+use Rattle.format.specs.Kit.{◌≡◌, sym, ◌∙◌, true, false, leb, le-leb, lt-leb, ltb-true, ltb-false}
 use Rattle.format.specs.Limits.{max_id}
 use Rattle.format.specs.Opening.{head_ok, length_ok}
 use Rattle.laws.proofs.InTurn.{id_above_in, gone_back_in, header_in, length_in, steps_in}
@@ -58,9 +58,6 @@ returns-then-not-length_ok c =
     (sym (length_in a.bytes.now (column_of a.column) a.cursor.last a.target (in_range (goal.at.returns-then-not-length_ok c).Else-not-id_ok) (not_back (goal.at.returns-then-not-length_ok c).Else-goes_back) (the_rules (goal.at.returns-then-not-length_ok c).Else-not-head_ok)
     (sym c.length_ok.ensures ∙ c.if-not-length_ok.true)))
     (c.refused-then-not-length_ok.ensures a.target)
-
-pub steps_from-requires : goal.steps_from-requires
-steps_from-requires c = (the_rules (goal.at.steps_from-requires c).Else-not-head_ok, whole c, leb-true _ max_id (in_range (goal.at.steps_from-requires c).Else-not-id_ok))
 
 pub returns : goal.returns
 returns c =

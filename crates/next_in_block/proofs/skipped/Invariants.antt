@@ -1,10 +1,7 @@
-use Rattle.format.specs.Kit.{◌-◌}
+use Rattle.format.specs.Kit.{◌*◌}
 use Rattle.next_in_block.specs.First.{Below}
 use Rattle.next_in_block.proofs.skipped.Given as goal
 
--- `next_in_block::skipped` meets its contract. Invariant: the entries before i are below r. Assumes nothing.
-abbrev pub invariant-loop-i : goal.invariant-loop-i
-invariant-loop-i l = Below l.s l.at l.count l.r l.i
-
-abbrev pub decreases-loop-i : goal.decreases-loop-i
-decreases-loop-i l = l.count - l.i
+-- `next_in_block::skipped` meets its contract. Invariant: the entries of the sixteens before k are below r. Assumes nothing.
+abbrev pub invariant-loop-k : goal.invariant-loop-k
+invariant-loop-k l = Below l.s l.at l.count l.r (16 * l.k)

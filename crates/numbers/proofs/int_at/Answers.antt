@@ -4,4 +4,4 @@ use Rattle.numbers.proofs.Shorts.{int_is}
 use Rattle.numbers.proofs.int_at.Goals as goal
 
 pub returns : goal.returns
-returns c = let a = c.args in (omega (arith, int_is a.s.now a.i (omega arith)), omega arith)
+returns c = let a = c.args in (omega (arith, int_is a.s.now a.i (omega arith), c.from_le_bytes.ensures), omega arith)

@@ -1,11 +1,13 @@
 -- `numbers::put_rank` meets its contract. Assumes nothing.
-use Rattle.format.specs.Kit.{arith, add-one, length-set}
-use Rattle.format.specs.Bytes.{digits}
+use Rattle.format.specs.Kit.{ap, ◌∙◌, List, ℕ, ◌+◌, ◌-◌, arith, take, drop, put_mid, length-reverse}
+use Rattle.format.specs.Bytes.{low, high}
+use Rattle.laws.proofs.Digits.{length_digits}
+use Rattle.laws.proofs.Stores.{part_put}
+use Rattle.numbers.proofs.Shorts.{high_two}
 use Rattle.numbers.proofs.put_rank.Goals as goal
 
-pub bounds-out-at-2 : goal.bounds-out-at-2
-bounds-out-at-2 c = simp length-set (omega arith)
-
 pub returns : goal.returns
-unfolding digits
-returns c = rw add-one
+returns c =
+    let a = c.args in
+    ap (put_mid a.at (a.at + 2 - a.at) a.out.now) (c.copy_from_slice.ensures.after ∙ ap (λ (bs : List ℕ). take 2 (drop 6 bs)) c.to_be_bytes.ensures ∙ high_two a.x)
+    ∙ part_put a.out.now (high 2 a.x) a.at (a.at + 2) (omega (arith, length-reverse (low 2 a.x), length_digits 256 2 a.x)) c.requires

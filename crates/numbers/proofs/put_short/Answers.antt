@@ -1,11 +1,13 @@
 -- `numbers::put_short` meets its contract. Assumes nothing.
-use Rattle.format.specs.Kit.{arith, add-one, length-set}
-use Rattle.format.specs.Bytes.{digits}
+use Rattle.format.specs.Kit.{ap, ◌∙◌, ◌+◌, ◌-◌, arith, take, put_mid}
+use Rattle.format.specs.Bytes.{low}
+use Rattle.laws.proofs.Digits.{length_digits}
+use Rattle.laws.proofs.Stores.{part_put}
+use Rattle.numbers.proofs.Shorts.{low_bytes}
 use Rattle.numbers.proofs.put_short.Goals as goal
 
-pub bounds-out-at-2 : goal.bounds-out-at-2
-bounds-out-at-2 c = simp length-set (omega arith)
-
 pub returns : goal.returns
-unfolding digits
-returns c = rw add-one
+returns c =
+    let a = c.args in
+    ap (put_mid a.at (a.at + 2 - a.at) a.out.now) (c.copy_from_slice.ensures.after ∙ ap (take 2) c.to_le_bytes.ensures ∙ low_bytes 2 a.x)
+    ∙ part_put a.out.now (low 2 a.x) a.at (a.at + 2) (omega (arith, length_digits 256 2 a.x)) c.requires

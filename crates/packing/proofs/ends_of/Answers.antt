@@ -7,8 +7,8 @@ pub returns-then-w-le8 : goal.returns-then-w-le8
 returns-then-w-le8 c =
     let s : List ℕ = c.args.s.now in
     record {
-      front = c.wide.ensures.0 ∙ sym (low_byte s 0 (omega arith));
-      back = c.wide-then-w-le8.ensures.0 ∙ sym (low_byte s (length s - 1) (omega arith));
+      front = c.from.ensures ∙ sym (low_byte s 0 (omega arith));
+      back = c.from-then-w-le8.ensures ∙ sym (low_byte s (length s - 1) (omega arith));
       some = omega arith;
       few = omega arith;
       inside = omega arith;

@@ -1,14 +1,11 @@
 -- `packing::field` meets its contract: the mask is one less than a power.
-use Rattle.format.specs.Kit.{◌≡◌, ap, ◌∙◌, ℕ, ◌*◌, ◌-◌, ◌/◌, ◌%◌, ◌^◌, ◌<◌, one-mul, mod-eq_of_lt, arith, pow_pos, pow-lt, bit_and, and_mask}
+use Rattle.format.specs.Kit.{◌≡◌, ap, ◌∙◌, ℕ, ◌*◌, ◌-◌, ◌/◌, ◌%◌, ◌^◌, ◌<◌, one-mul, mod-eq_of_lt, pow-lt, bit_and, and_mask}
 use Rattle.packing.proofs.field.Goals as goal
 
 -- Assumes nothing.
 -- `1 << n`
 one_shl : (n : ℕ) → n < 64 → 1 * 2 ^ n % 2 ^ 64 ≡ 2 ^ n
 one_shl n h = rw one-mul (mod-eq_of_lt (pow-lt h))
-
-pub overflow_sub-result : goal.overflow_sub-result
-overflow_sub-result c = omega (arith, one_shl c.args.n c.requires.1, pow_pos c.args.n)
 
 pub returns : goal.returns
 returns c =

@@ -1,13 +1,8 @@
 -- `packing::finish` meets its contract.
-use Rattle.format.specs.Kit.{◌∙◌, List, ℕ, ◌-◌, arith, pow_pos}
+use Rattle.format.specs.Kit.{◌∙◌, List, ℕ, arith}
 use Rattle.format.specs.Bits.{bit_bytes}
 use Rattle.packing.proofs.Stream.{last_word, stored_bytes}
 use Rattle.packing.proofs.finish.Goals as goal
-
--- Assumes nothing.
-pub filled-requires : goal.filled-requires
-filled-requires c =
-    (c.requires.0, c.requires.1, pow_pos (64 - c.args.p.have))
 
 pub returns : goal.returns
 returns c =

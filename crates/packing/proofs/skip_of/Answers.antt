@@ -8,6 +8,3 @@ pub returns : goal.returns
 returns c =
     let k = eighths c.args.i c.args.w c.requires in
     rw k.mask (omega (arith, and_mask (c.args.i % 8 * c.args.w) 3))
-
-pub overflow_mul-result : goal.overflow_mul-result
-overflow_mul-result c = let k = eighths c.args.i c.args.w c.requires in rw k.mask (omega arith)

@@ -1,36 +1,38 @@
--- `packing::store` meets its contract. The loop's invariant: the first j bytes are written, and all others are as they were.
-use Rattle.format.specs.Kit.{◌⊎◌, inl, inr, ◌≡◌, ◌∙◌, List, ℕ, ◌+◌, ◌*◌, ◌-◌, ◌/◌, ◌%◌, ◌^◌, ◌<◌, eq-or-lt_of_le, arith, length}
-use Rattle.format.specs.Kit.{get_or, set, length-set, drop-set-lt, get_or-set_same, get_or-set_other}
+-- `packing::store` meets its contract: std's bytes of a number, the highest first, are its quotients. Assumes nothing.
+use Rattle.std.specs.Int.{w64, to_be_bytes}
+use Rattle.std.proofs.lemmas.Slice.{take-put_mid_below, drop-put_mid}
+use Rattle.std.proofs.lemmas.List.{get_or-append_right, get_or_append_left}
+use Rattle.format.specs.Kit.{◌≡◌, refl, sym, ap, ◌∙◌, List, ℕ, suc, ◌+◌, ◌*◌, ◌-◌, ◌/◌, ◌%◌, ◌^◌, ◌<◌, le_refl, div-one, arith, get_or, take, get_or-take, length-take-le, put_mid, post_of, zero, ◌++◌}
 use Rattle.packing.proofs.store.Goals as goal
 
--- one byte more
-next_byte : (d : List ℕ) (at j v b : ℕ) → at + j < length d → b ≡ v / 2 ^ (56 - j * 8) % 2 ^ 8
-    → ((k : ℕ) → k < j → get_or d (at + k) 0 ≡ v / 2 ^ (56 - k * 8) % 2 ^ 8)
-    → (k : ℕ) → k < j + 1 → get_or (set d (at + j) b) (at + k) 0 ≡ v / 2 ^ (56 - k * 8) % 2 ^ 8
-next_byte d at j v b inside e old k h = go (eq-or-lt_of_le {n = k} {m = j} (omega arith))
-  where
-    go : (k ≡ j) ⊎ (k < j) → get_or (set d (at + j) b) (at + k) 0 ≡ v / 2 ^ (56 - k * 8) % 2 ^ 8
-    go (inl q) = rw q (get_or-set_same d (at + j) b 0 inside ∙ e)
-    go (inr l) = get_or-set_other d (at + j) (at + k) b 0 (omega arith) ∙ old k l
-
-pub loop-j-preserved : goal.loop-j-preserved
-loop-j-preserved c =
-    let start = c.args in
-    let at : ℕ = start.at in
-    let n : ℕ = start.n in
-    let j : ℕ = c.loop-j.j in
-    let d : List ℕ = c.loop-j.dst in
-    let b : ℕ = c.byte_above.result in
-    let inside : at + j < length d = omega arith in
-    let inv = c.loop-j.invariant in (
-      omega arith,
-      length-set d (at + j) b ∙ inv.1,
-      drop-set-lt (at + n) d (at + j) b (omega arith) ∙ inv.2,
-      λ k l. get_or-set_other d (at + j) k b 0 (omega arith) ∙ inv.3 k l,
-      next_byte d at j start.v b inside c.byte_above.ensures inv.4,
-    )
+-- byte j of eight
+byte_is : (v j : ℕ) → j < 8 → get_or (to_be_bytes w64 v) j 0 ≡ v / 2 ^ (56 - j * 8) % 2 ^ 8
+byte_is v zero h = refl
+byte_is v (suc zero) h = refl
+byte_is v (suc (suc zero)) h = refl
+byte_is v (suc (suc (suc zero))) h = refl
+byte_is v (suc (suc (suc (suc zero)))) h = refl
+byte_is v (suc (suc (suc (suc (suc zero))))) h = refl
+byte_is v (suc (suc (suc (suc (suc (suc zero)))))) h = refl
+byte_is v (suc (suc (suc (suc (suc (suc (suc zero))))))) h = sym (ap (λ (x : ℕ). x % 256) (div-one v))
+byte_is v (suc (suc (suc (suc (suc (suc (suc (suc j)))))))) h = absurd (omega arith)
 
 pub returns : goal.returns
 returns c =
-    let inv = c.loop-j.invariant in
-    record { before = inv.3; bytes = λ j l. inv.4 j (omega arith); rest = inv.2 }
+    let a = c.args in
+    let d : List ℕ = a.dst.now in
+    let part : List ℕ = c.copy_from_slice.new.self in
+    let e : List ℕ = put_mid a.at (a.at + a.n - a.at) d part in
+    let is : part ≡ take a.n (to_be_bytes w64 a.v) = c.copy_from_slice.ensures.after ∙ ap (take a.n) c.to_be_bytes.ensures in
+    record {
+      before = λ k l.
+          sym (get_or-take a.at e k 0 l) ∙ ap (λ (xs : List ℕ). get_or xs k 0) (take-put_mid_below a.at _ d part a.at (le_refl a.at) (omega arith))
+          ∙ get_or-take a.at d k 0 l;
+      bytes = λ j l.
+          let back : a.at + j - a.at ≡ j = omega arith in
+          get_or-append_right (take a.at d) (part ++ post_of a.at (a.at + a.n - a.at) d) a.at (a.at + j) 0 (length-take-le a.at d (omega arith)) (omega arith)
+          ∙ ap (λ (i : ℕ). get_or (part ++ post_of a.at (a.at + a.n - a.at) d) i 0) back
+          ∙ get_or_append_left part (post_of a.at (a.at + a.n - a.at) d) 0 j (omega (arith, c.copy_from_slice.ensures.len))
+          ∙ ap (λ (xs : List ℕ). get_or xs j 0) is ∙ get_or-take a.n (to_be_bytes w64 a.v) j 0 l ∙ byte_is a.v j (omega arith);
+      rest = drop-put_mid a.at _ d part (a.at + a.n) (omega arith) (omega arith) (omega (arith, c.copy_from_slice.ensures.len));
+    }

@@ -1,21 +1,7 @@
 -- `packing::swapped` meets its contract: a byte's quotient is that of the byte before it, over 256. Assumes nothing.
-use Rattle.format.specs.Kit.{◌≡◌, ℕ, ◌/◌, ◌%◌, ◌<◌, arith}
+use Rattle.format.specs.Kit.{◌≡◌, ℕ, ◌/◌, arith}
 use Rattle.packing.specs.Turned.{turned}
-use Rattle.packing.proofs.Swap.{sum_fits}
 use Rattle.packing.proofs.swapped.Goals as goal
-
-small : (y : ℕ) → y % 256 < 256
-small y = omega arith
-
-pub overflow_add-result-7 : goal.overflow_add-result-7
-overflow_add-result-7 c =
-    let x : ℕ = c.args.x in
-    record {
-      fits =
-          sum_fits (x % 256) (x / 256 % 256) (x / 65536 % 256) (x / 16777216 % 256) (x / 4294967296 % 256) (x / 1099511627776 % 256)
-          (x / 281474976710656 % 256) (x / 72057594037927936) (small x) (small (x / 256)) (small (x / 65536)) (small (x / 16777216))
-          (small (x / 4294967296)) (small (x / 1099511627776)) (small (x / 281474976710656)) (omega arith);
-    }
 
 pub returns : goal.returns
 unfolding turned
@@ -27,5 +13,4 @@ returns c =
     let q5 : x / 1099511627776 ≡ x / 4294967296 / 256 = omega arith in
     let q6 : x / 281474976710656 ≡ x / 1099511627776 / 256 = omega arith in
     let q7 : x / 72057594037927936 ≡ x / 281474976710656 / 256 = omega arith in
-    let last : x / 72057594037927936 % 256 ≡ x / 72057594037927936 = omega arith in
-    rw (← q2, ← q3, ← q4, ← q5, ← q6, ← q7) (omega arith)
+    rw (← q2, ← q3, ← q4, ← q5, ← q6, ← q7) (omega (arith, c.swap_bytes.ensures))

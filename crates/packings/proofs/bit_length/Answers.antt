@@ -3,9 +3,6 @@ use Rattle.format.specs.Kit.{arith, leading_le}
 use Rattle.packings.proofs.Width.{leading_width}
 use Rattle.packings.proofs.bit_length.Goals as goal
 
-pub overflow_cast-result : goal.overflow_cast-result
-overflow_cast-result c = omega (arith, leading_le 64 c.args.q)
-
 pub overflow_sub-result : goal.overflow_sub-result
 overflow_sub-result c = omega (arith, leading_le 64 c.args.q)
 

@@ -48,7 +48,7 @@ returns c =
     let b : ℕ = bit / 8 in
     let n : ℕ = (bit + w + 7) / 8 - b in
     let is : n ≡ fetched_bytes w a.i = omega (arith, taken_is w a.i (omega arith)) in
-    let own : length (take n (drop b s)) ≡ n = omega (arith, c.touched-1.given) in
+    let own : length (take n (drop b s)) ≡ n = omega arith in
     let len : length (take n (drop b s)) ≡ fetched_bytes w a.i = own ∙ is in (
       c.number_in.ensures s b a.i (ap (λ (m : ℕ). take m (drop b s)) (sym own)) (omega (arith, own))
           (λ k. (c.type_inv.s k).fits) (place (goal.at.returns c).Start),

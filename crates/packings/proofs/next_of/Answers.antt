@@ -39,7 +39,7 @@ returns c =
     let a = c.args in
     let s : List ℕ = a.s.now in
     let n : ℕ = a.at + (a.skip + a.w + 7) / 8 - a.at in
-    let own : length (take n (drop a.at s)) ≡ n = omega (arith, c.number_in-arg-1.given) in
+    let own : length (take n (drop a.at s)) ≡ n = omega arith in
     c.number_in.ensures s a.at a.i (ap (λ (m : ℕ). take m (drop a.at s)) (sym own)) (omega (arith, own, ends (goal.at.returns c).Start))
     (λ k. (c.type_inv.s k).fits) c.requires.3
 

@@ -1,5 +1,5 @@
 -- `page::fill_any` meets its contract. Assumes nothing.
-use Rattle.format.specs.Kit.{◌≡◌, sym, ◌∙◌, subst, ℕ, ◌+◌, ◌-◌, ◌%◌, ◌^◌, ◌≤◌, ◌<◌, arith, length, get_or, eqb-true}
+use Rattle.format.specs.Kit.{◌≡◌, sym, ◌∙◌, subst, ℕ, ◌+◌, ◌%◌, ◌^◌, ◌≤◌, ◌<◌, arith, length, get_or, eqb-true}
 use Rattle.format.specs.Refusals.{done}
 use Rattle.laws.proofs.Tests.{both_true}
 use Rattle.column.specs.Opened.{column_of}
@@ -7,7 +7,7 @@ use Rattle.page.specs.Openings.{look_by}
 use Rattle.page.specs.Marks.{BlockIs}
 use Rattle.page.specs.Parts.{three, Filled}
 use Rattle.page.proofs.Parts.{fills_none, fills_on}
-use Rattle.page.proofs.Slots.{Known, none_known, renewed, there}
+use Rattle.page.proofs.Slots.{Known, none_known, renewed}
 use Rattle.page.proofs.fill_any.Goals as goal
 use Rattle.page.proofs.fill_any.Goals.{then-not-shared, else-not-shared, In-loop-i, Joined-not-shared, Start}
 
@@ -16,10 +16,7 @@ small s = omega arith
 
 pub loop-i-init : goal.loop-i-init
 loop-i-init c =
-    (fills_none _ _ _ _ _ (small (goal.at.loop-i-init c).Start), none_known _ _, omega arith, omega arith, c.requires.1)
-
-pub met_in-met-requires : goal.met_in-met-requires
-met_in-met-requires c = c.requires.0
+    (fills_none _ _ _ _ _ (small (goal.at.loop-i-init c).Start), none_known _ _, omega arith)
 
 -- the slots after the id's block was met, or was there
 known : (c : Joined-not-shared) →
@@ -41,61 +38,29 @@ known c =
           rw (w.numbers-is, w.steps-is, w.anew-is) (v.1, eqb-true _ _ e.0, omega (arith, v.2))
     ]
 
-pub held_in-held-requires : goal.held_in-held-requires
-held_in-held-requires c =
-    let k = known (goal.at.held_in-held-requires c).Joined-not-shared in
-    let p = c.requires.0 in (
-      p.0,
-      p.1,
-      there _ _ k.0 (c.number_of-number.result % 16) _ _ (omega arith) (k.1 ∙ c.number_of-number.ensures.0),
-    )
-
 -- there is room for the id
 room : (c : In-loop-i) → let l = c.loop-i in (l.i < length l.ordinals) × (l.i < length l.values) × (l.i < length l.kinds)
 room c =
     let k = c.loop-i.invariant.0.within.kept in
     let r = c.requires.3 in (
-      omega (arith, c.loop-i-test.true, r.ordinals_long, k.in_ordinals),
-      omega (arith, c.loop-i-test.true, r.values_long, k.in_values),
-      omega (arith, c.loop-i-test.true, r.kinds_long, k.in_kinds),
+      omega (arith, r.ordinals_long, k.in_ordinals),
+      omega (arith, r.values_long, k.in_values),
+      omega (arith, r.kinds_long, k.in_kinds),
     )
-
-pub put-requires : goal.put-requires
-put-requires c = room (goal.at.put-requires c).In-loop-i
 
 pub loop-i-preserved : goal.loop-i-preserved
 loop-i-preserved c =
     let k = known (goal.at.loop-i-preserved c).Joined-not-shared in
     let v = c.loop-i.invariant in (
-      fills_on v.0 v.3 (room (goal.at.loop-i-preserved c).In-loop-i) c.held_in-held.ensures c.put.ensures c.wrapping_add_u64-words.ensures.value,
+      fills_on v.0 (omega arith) (room (goal.at.loop-i-preserved c).In-loop-i) c.held_in-held.ensures c.put.ensures c.wrapping_add_u64-words.ensures.value,
       k.0,
       k.2,
-      omega (arith, v.3),
-      omega (arith, c.loop-i-test.true),
     )
 
 pub returns : goal.returns
 returns c =
     let l = c.loop-i in
     let a = c.args in
-    let z : l.i ≡ a.e = omega (arith, c.loop-i-test.false, l.invariant.4) in
+    let z : l.i ≡ a.e = omega arith in
     subst (λ (x : ℕ). Filled (look_by a.bytes.now (done (column_of a.column))) a.ids.now a.from x (three a.ordinals.now a.values.now a.kinds.now)
     (three l.ordinals l.values l.kinds) a.counted l.words) z l.invariant.0
-
-pub bounds-ids-i : goal.bounds-ids-i
-bounds-ids-i c = omega (arith, c.loop-i-test.true, c.requires.2)
-
-pub overflow_sub-i : goal.overflow_sub-i
-overflow_sub-i c = omega (arith, c.loop-i.invariant.3)
-
-pub overflow_add-anew : goal.overflow_add-anew
-overflow_add-anew c = omega (arith, c.loop-i.invariant.2)
-
-pub shape_of-ordinals : goal.shape_of-ordinals
-shape_of-ordinals c = c.loop-i.invariant.0.within.kept.in_ordinals
-
-pub shape_of-values : goal.shape_of-values
-shape_of-values c = c.loop-i.invariant.0.within.kept.in_values
-
-pub shape_of-kinds : goal.shape_of-kinds
-shape_of-kinds c = c.loop-i.invariant.0.within.kept.in_kinds

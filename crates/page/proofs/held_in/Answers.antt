@@ -26,14 +26,6 @@ returns-then-not-id_ok c =
     subst (λ (x : Outcome Look). Holds x c.refused.result)
     (sym (above_by a.bytes.now a.id _ (sym c.id_ok.ensures ∙ c.if-not-id_ok.true))) c.refused.ensures
 
-pub find-mark-requires : goal.find-mark-requires
-find-mark-requires c = c.requires
-
-pub valued-requires : goal.valued-requires
-valued-requires c =
-    let o = c.requires in
-    (o.0, o.1, rw c.in-At.is at c.find-mark.ensures.1)
-
 pub returns-in-At : goal.returns-in-At
 returns-in-At c =
     let a = c.args in

@@ -1,17 +1,8 @@
 -- `page::refuse` meets its contract. Assumes nothing.
-use Rattle.format.specs.Kit.{refl, ◌-◌, arith}
+use Rattle.format.specs.Kit.{refl, arith}
 use Rattle.page.proofs.Pages.{begins, goes_on, ends}
 use Rattle.page.proofs.Parts.{keeps, kept_both}
 use Rattle.page.proofs.refuse.Goals as goal
-
-pub put-requires : goal.put-requires
-put-requires c =
-    let k = c.loop-i.invariant.0 in
-    let r = c.requires in (
-      omega (arith, c.loop-i-test.true, r.ordinals_long, k.in_ordinals),
-      omega (arith, c.loop-i-test.true, r.values_long, k.in_values),
-      omega (arith, c.loop-i-test.true, r.kinds_long, k.in_kinds),
-    )
 
 pub loop-i-preserved : goal.loop-i-preserved
 loop-i-preserved c =
@@ -26,15 +17,6 @@ loop-i-preserved c =
 
 pub loop-i-init : goal.loop-i-init
 loop-i-init c = (record { in_ordinals = refl; in_values = refl; in_kinds = refl }, λ bytes. begins _ _ _)
-
-pub shape_of-ordinals : goal.shape_of-ordinals
-shape_of-ordinals c = c.loop-i.invariant.0.in_ordinals
-
-pub shape_of-values : goal.shape_of-values
-shape_of-values c = c.loop-i.invariant.0.in_values
-
-pub shape_of-kinds : goal.shape_of-kinds
-shape_of-kinds c = c.loop-i.invariant.0.in_kinds
 
 pub returns : goal.returns
 returns c bytes = ends _ _ (c.loop-i.invariant.1 bytes) (omega (arith, c.loop-i-test.false)) c.requires

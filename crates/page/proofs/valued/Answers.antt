@@ -1,5 +1,5 @@
 -- `page::valued` meets its contract: the value section answers step 7. Assumes nothing.
-use Rattle.format.specs.Kit.{◌≡◌, sym, ap, ◌∙◌, subst, arith, eqb-true}
+use Rattle.format.specs.Kit.{◌≡◌, sym, ap, ◌∙◌, subst, eqb-true}
 use Rattle.std.proofs.Common.{to_z-of_z, w64}
 use Rattle.format.specs.Refusals.{Outcome}
 use Rattle.format.specs.Editions.{codec}
@@ -43,8 +43,8 @@ pub returns : goal.returns
 unfolding place_ordinal place_value place_kind place_words
 returns c =
     let a = c.args in
-    let z = c.in-Value.value in
-    let e = c.in-Value.is in
+    let z = c.in-Some.value in
+    let e = c.in-Some.is in
     let f = value_fits a.bytes.now (column_of a.column) a.ordinal z (sym (read (goal.at.returns c).After-value_of) ∙ ap fetched_of e) in
     let q = sym (value_found _ _ c.value_of.result (read (goal.at.returns c).After-value_of) z e) in
     record {
@@ -53,18 +53,3 @@ returns c =
       kind = ap place_kind q;
       words = ap place_words q;
     }
-
-pub overflow_add-end : goal.overflow_add-end
-overflow_add-end c = omega (arith, (parted c).whole)
-
-pub slice_bounds-section-count : goal.slice_bounds-section-count
-slice_bounds-section-count c = omega (arith, (parted c).whole)
-
-pub slice_bounds-section-start : goal.slice_bounds-section-start
-slice_bounds-section-start c = omega (arith, (parted c).whole)
-
-pub number_of-stored-requires : goal.number_of-stored-requires
-number_of-stored-requires c = c.slot_of-slot.ensures.0
-
-pub value_of-requires : goal.value_of-requires
-value_of-requires c = c.slot_of-slot.ensures.1

@@ -1,5 +1,5 @@
 -- `plans::accepts` meets its contract, test by test. Assumes nothing.
-use Rattle.format.specs.Kit.{◌≡◌, sym, ap, ◌∙◌, true, false, List, [], ◌∷◌, arith, ℤ, length}
+use Rattle.format.specs.Kit.{◌≡◌, sym, ap, ◌∙◌, List, [], ◌∷◌, arith, ℤ, length}
 use Rattle.format.specs.Pairs.{Each, Fits}
 use Rattle.laws.proofs.Cases.{false_true}
 use Rattle.table_values.specs.Saves.{saves}

@@ -1,5 +1,5 @@
 -- `plans::plan` meets its contract: the values' own table where it has 2 to 256 entries and saves bytes, else plain. Assumes nothing.
-use Rattle.format.specs.Kit.{◌≡◌, sym, ap, ◌∙◌, subst, List, ◌++◌, arith, ℤ, length, take, drop, length-take-le}
+use Rattle.format.specs.Kit.{◌≡◌, sym, ap, ap₂, ◌∙◌, subst, List, ℕ, ◌++◌, arith, ℤ, length, take, drop, length-take-le}
 use Rattle.format.specs.Pairs.{Each, Fits}
 use Rattle.table_values.specs.Saves.{saves}
 use Rattle.plans.proofs.Checked.{too_long, few_values, many_values, no_saving, own_plan, kept_plain}
@@ -39,11 +39,12 @@ returns c =
     let a = c.args in
     let own = own_plan a.values.now c.if-values.false c.distinct-t.result c.distinct-t.new.table c.distinct-t.ensures
     c.if-t-lt-MIN_ENTRIES.false c.if-t-gt-MAX_ENTRIES.false
-    (sym (c.saves.ensures.0 ∙ ap (saves _) c.long.ensures) ∙ c.if-not-saves.false) in (
-      sym (ap length own ∙ counted (goal.at.returns c).Else-t-gt-MAX_ENTRIES),
+    (sym (c.saves.ensures.0 ∙ ap (saves _) c.long.ensures) ∙ c.if-not-saves.false) in
+    let n = sym (ap length own ∙ counted (goal.at.returns c).Else-t-gt-MAX_ENTRIES) in (
+      n,
       c.if-t-gt-MAX_ENTRIES.false,
       subst (Each Fits) (sym own) c.saves.ensures.1,
-      c.copy.ensures ∙ ap (λ (l : List ℤ). l ++ drop (length l) a.out.now) (sym own),
+      ap₂ (λ (l : List ℤ) (k : ℕ). l ++ drop k a.out.now) (c.copy_from_slice.ensures.after ∙ sym own) n,
     )
 
 pub slice_bounds-saves-end : goal.slice_bounds-saves-end
@@ -55,10 +56,3 @@ saves-requires c = let n = counted (goal.at.saves-requires c).Else-t-gt-MAX_ENTR
   omega (arith, n, c.if-t-gt-MAX_ENTRIES.false),
   omega (arith, c.long.ensures, c.if-values.false),
 )
-
-pub slice_bounds-copy-end : goal.slice_bounds-copy-end
-slice_bounds-copy-end c = sym (counted (goal.at.slice_bounds-copy-end c).Else-t-gt-MAX_ENTRIES)
-
-pub copy-requires : goal.copy-requires
-copy-requires c = omega
-    (arith, counted (goal.at.copy-requires c).Else-t-gt-MAX_ENTRIES, c.if-t-gt-MAX_ENTRIES.false, c.requires)

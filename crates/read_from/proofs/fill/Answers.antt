@@ -1,12 +1,12 @@
 -- `read_from::fill` meets its contract. Invariant: the part up to place r of block b. Assumes nothing.
-use Rattle.format.specs.Kit.{refl, sym, ◌∙◌, subst, ◌+◌, ◌-◌, ◌*◌, arith, rules, eqb-true}
+use Rattle.format.specs.Kit.{refl, sym, ◌∙◌, subst, ◌+◌, ◌*◌, arith, eqb-true}
 use Rattle.column.specs.Opened.{column_of}
 use Rattle.lookup.specs.Steps.{Fair}
 use Rattle.lookup.proofs.Whole.{Parted, id_part_lem, id_length}
 use Rattle.next.proofs.Answers.{asked_of, asked_id, asked_block}
 use Rattle.read_in_block.proofs.Parts.{stays, passes, then}
 use Rattle.read_from.proofs.Passed.{above_all, blocks_passed}
-use Rattle.read_from.proofs.Replies.{kind_none, kind_failure, after_block}
+use Rattle.read_from.proofs.Replies.{after_block}
 use Rattle.read_from.proofs.fill.Goals as goal
 use Rattle.read_from.proofs.fill.Goals.{After-size}
 
@@ -58,12 +58,12 @@ returns-then-part c =
       target = _;
       reads = then c.loop-b.invariant.0
           g.ensures.reads;
-      kind = kind_failure _ _ s;
-      full = λ z. absurd (omega arith);
+      ended = s;
+      full = λ z. cc;
     }
 
-pub kind_after-requires : goal.kind_after-requires
-kind_after-requires c =
+pub ended_after-requires : goal.ended_after-requires
+ended_after-requires c =
     let n = c.requires.0 in (
       n.rules,
       n.whole,
@@ -76,7 +76,7 @@ pub returns-then-part-room : goal.returns-then-part-room
 returns-then-part-room c =
     let g = c.block_from-part in
     let w = then c.loop-b.invariant.0 g.ensures.reads in
-    record { target = _; reads = rw c.if-part-room.true at w; kind = rw c.if-part-room.true at c.kind_after.ensures; full = λ z. refl }
+    record { target = _; reads = rw c.if-part-room.true at w; ended = rw c.if-part-room.true at c.ended_after.ensures; full = λ z. refl }
 
 pub next_block-b-requires : goal.next_block-b-requires
 next_block-b-requires c =
@@ -111,8 +111,8 @@ returns c =
     record {
       target = _;
       reads = l.invariant.0;
-      kind = kind_none _ _ (above_all a.bytes.now (column_of a.column) (l.b * 65536 + l.r) (omega (arith, c.loop-b-test.false)));
-      full = λ z. absurd (omega arith);
+      ended = above_all a.bytes.now (column_of a.column) (l.b * 65536 + l.r) (omega (arith, c.loop-b-test.false));
+      full = λ z. cc;
     }
 
 pub overflow_add-end : goal.overflow_add-end

@@ -34,5 +34,5 @@ pub returns : goal.returns
 returns c =
     let a = c.args in
     let e = c.entry_at in
-    block_there a.s.now a.q a.b e.result e.ensures c.in-At.block (on_at (goal.at.returns c).In-At) (reached_at (goal.at.returns c).In-At) c.in-Enough.block
-    (rw c.in-Enough.is at c.room_for.ensures) c.requires.0 c.requires.1
+    block_there a.s.now a.q a.b e.result e.ensures c.in-At.block (on_at (goal.at.returns c).In-At) (reached_at (goal.at.returns c).In-At) c.in-Some.block
+    (rw c.in-Some.is at c.room_for.ensures) c.requires.0 c.requires.1

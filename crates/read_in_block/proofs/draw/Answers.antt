@@ -1,5 +1,5 @@
 -- `read_in_block::draw` meets its contract: the value section's values are the column's. Assumes nothing.
-use Rattle.format.specs.Kit.{ap, ◌∙◌, List, ℕ, ◌+◌, ◌-◌, arith, ℤ, eqb-true, length, sets}
+use Rattle.format.specs.Kit.{ap, ◌∙◌, List, ℕ, ◌+◌, ◌-◌, ℤ, eqb-true, length, sets}
 use Rattle.format.specs.Editions.{codec}
 use Rattle.format.specs.Opening.{value_in, value_of}
 use Rattle.laws.proofs.Rules.{head_facts}
@@ -32,12 +32,3 @@ returns c =
     let g : List ℕ → List ℤ = λ l. drawn ((codec h.edition).value h.count h.fields l) (a.end - a.from) a.x in
     let e = ap g (value_part_lem (parted (goal.at.returns c).After-size-2)) in
     (c.draw.ensures.0 ∙ ap (λ (l : List ℤ). a.from + length l) e, c.draw.ensures.1 ∙ ap (sets a.values.now a.from) e)
-
-pub overflow_add-after : goal.overflow_add-after
-overflow_add-after c = omega (arith, (parted c).whole)
-
-pub slice_bounds-section-count : goal.slice_bounds-section-count
-slice_bounds-section-count c = omega (arith, (parted c).whole)
-
-pub slice_bounds-section-start : goal.slice_bounds-section-start
-slice_bounds-section-start c = omega (arith, (parted c).whole)

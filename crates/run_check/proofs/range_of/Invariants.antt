@@ -1,4 +1,3 @@
-use Rattle.format.specs.Kit.{◌-◌}
 use Rattle.run_check.proofs.Turns.{Turn}
 use Rattle.run_check.proofs.range_of.Given as goal
 
@@ -6,6 +5,3 @@ use Rattle.run_check.proofs.range_of.Given as goal
 -- with number i, what the definitions make of them, and goes on by one number's bits. Assumes nothing.
 abbrev pub invariant-loop-i : goal.invariant-loop-i
 invariant-loop-i l = Turn l.w l.n l.s l.d l.lo l.hi l.g l.m l.i l.at l.skip
-
-abbrev pub decreases-loop-i : goal.decreases-loop-i
-decreases-loop-i l = l.n - l.i

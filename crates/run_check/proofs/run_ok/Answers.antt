@@ -1,5 +1,5 @@
 -- `run_check::run_ok` meets its contract. Assumes nothing.
-use Rattle.format.specs.Kit.{◌≡◌, sym, ap, ap₂, ◌∙◌, subst, ℕ, List, ◌+◌, ◌-◌, ◌*◌, ◌≤◌, arith, length, take, drop, length-drop, length-take-le, mul-le-mul}
+use Rattle.format.specs.Kit.{◌≡◌, sym, ap, ap₂, ◌∙◌, ℕ, List, ◌+◌, ◌-◌, ◌*◌, ◌≤◌, arith, length, take, drop, length-drop, length-take-le, mul-le-mul}
 use Rattle.format.specs.Limits.{max_width}
 use Rattle.format.specs.Bits.{packed_bytes, unpacked}
 use Rattle.format.specs.Values.{gcd_from}
@@ -21,9 +21,6 @@ pub returns-then-x-gt-MAX_WIDTH : goal.returns-then-x-gt-MAX_WIDTH
 returns-then-x-gt-MAX_WIDTH c =
     let a = c.args in
     too_wide a.g a.rest.now a.at a.n (summary_is a.x) c.if-x-at.false c.if-x-gt-MAX_WIDTH.true
-
-pub packed_bytes-bytes-requires : goal.packed_bytes-bytes-requires
-packed_bytes-bytes-requires c = (omega (arith, c.requires.3), c.if-x-gt-MAX_WIDTH.false)
 
 pub returns-then-rest-at : goal.returns-then-rest-at
 returns-then-rest-at c =
@@ -70,16 +67,6 @@ returns-then-not-spare_ok c =
     bad_spare a.g a.rest.now a.at a.n (summary_is a.x) i.starts i.narrow i.within
     (sym (spare_is (goal.at.returns-then-not-spare_ok c).After-spare_ok) ∙ c.if-not-spare_ok.true)
 
-pub range_of-range-requires : goal.range_of-range-requires
-range_of-range-requires c =
-    let i = inside (goal.at.range_of-range-requires c).Else-rest-at in
-    let a = c.args in (
-      i.narrow,
-      c.requires.2,
-      c.requires.3,
-      subst (λ (l : List ℕ). a.n * a.x.width ≤ 8 * length l) (sym i.part_is) (omega (arith, i.part_long)),
-    )
-
 -- the range decides
 decided : (c : After-range_ok) → let a = c.args in
     c.range_ok.result ≡ run_ok a.g a.rest.now a.at a.n (summary_is a.x)
@@ -100,21 +87,6 @@ returns c =
       sym (decided (goal.at.returns c).After-range_ok) ∙ c.if-not-range_ok.false,
       c.range_of-range.ensures.2 ∙ ap (λ (l : List ℕ). gcd_from a.d (unpacked a.x.width a.n l)) (inside (goal.at.returns c).Else-rest-at).part_is,
     )
-
-pub overflow_mul-bytes : goal.overflow_mul-bytes
-overflow_mul-bytes c = omega (arith, (inside (goal.at.overflow_mul-bytes c).Else-rest-at).few, c.packed_bytes-bytes.ensures.0)
-
-pub overflow_mul-n : goal.overflow_mul-n
-overflow_mul-n c = omega (arith, (inside (goal.at.overflow_mul-n c).Else-rest-at).few)
-
-pub overflow_sub-bytes : goal.overflow_sub-bytes
-overflow_sub-bytes c = omega (arith, (inside (goal.at.overflow_sub-bytes c).Else-rest-at).few, c.packed_bytes-bytes.ensures.0)
-
-pub spare_ok-requires : goal.spare_ok-requires
-spare_ok-requires c = omega (arith, (inside (goal.at.spare_ok-requires c).Else-rest-at).few, c.packed_bytes-bytes.ensures.0)
-
-pub range_ok-requires : goal.range_ok-requires
-range_ok-requires c = (c.requires.1, (inside (goal.at.range_ok-requires c).Else-rest-at).narrow)
 
 pub returns-then-not-range_ok : goal.returns-then-not-range_ok
 returns-then-not-range_ok c = sym (decided (goal.at.returns-then-not-range_ok c).After-range_ok) ∙ c.if-not-range_ok.true

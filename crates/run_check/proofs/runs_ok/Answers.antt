@@ -1,31 +1,15 @@
 -- `run_check::runs_ok` meets its contract. The loop's invariant: the runs that are left, with what the others left behind, give what all give.
-use Rattle.format.specs.Kit.{◌≡◌, sym, ap, ap₂, ◌∙◌, true, ℕ, ◌+◌, ◌-◌, ◌*◌, ◌≤◌, min, sub-zero, arith, length, eq-eqb, ne_eqb}
+use Rattle.format.specs.Kit.{◌≡◌, sym, ap, ap₂, ◌∙◌, true, ℕ, ◌+◌, ◌-◌, ◌*◌, ◌≤◌, min, arith, length, eq-eqb, ne_eqb}
 use Rattle.format.specs.Limits.{max_width}
 use Rattle.format.specs.Bits.{packed_bytes}
 use Rattle.format.specs.Values.{over, gcd, gcd_from}
 use Rattle.format.specs.ValueRuns.{run_length, run_count, Summary, summary_at}
 use Rattle.run_values.specs.Summaries.{summary_is}
 use Rattle.run_check.specs.RunsOk.{numbers_at, run_ok, runs_ok}
-use Rattle.run_check.proofs.Gone.{was_bad, was_good, run_bad, run_good, runs_over}
+use Rattle.run_check.proofs.Gone.{run_bad, run_good, runs_over}
 use Rattle.run_check.proofs.Ran as Ran
 use Rattle.run_check.proofs.runs_ok.Goals as goal
-use Rattle.run_check.proofs.runs_ok.Goals.{After-run_ok, At-loop-r, In-Good}
-
-pub loop-r-init : goal.loop-r-init
-loop-r-init c = (omega arith, omega arith, sym (rw (sub-zero c.run_count-runs.result)))
-
-pub summary_at-x-requires : goal.summary_at-x-requires
-summary_at-x-requires c =
-    omega (arith, c.requires.0, c.loop-r-test.true, c.run_count-runs.ensures)
-
-pub count_in-count-requires : goal.count_in-count-requires
-count_in-count-requires c =
-    omega (arith, c.loop-r-test.true, c.run_count-runs.ensures)
-
-pub run_ok-requires : goal.run_ok-requires
-run_ok-requires c =
-    let e = c.count_in-count.ensures in
-    (c.loop-r.invariant.1, c.requires.1, omega (arith, e, c.loop-r-test.true, c.run_count-runs.ensures), omega (arith, e))
+use Rattle.run_check.proofs.runs_ok.Goals.{After-run_ok, At-loop-r, In-Some}
 
 -- the run as the definition has it
 same_run : (c : After-run_ok) → let a = c.args in
@@ -47,25 +31,25 @@ pub returns-in_default : goal.returns-in_default
 returns-in_default c =
     let a = c.args in
     run_bad a.g a.section.now a.rest.now a.n c.run_count-runs.result c.loop-r.r c.loop-r.at c.loop-r.apart c.loop-r.d
-    c.loop-r-test.true (sym (same_run (goal.at.returns-in_default c).After-run_ok) ∙ was_bad _ _ c.run_ok.result c.run_ok.ensures c.in_default.is)
+    c.loop-r-test.true (sym (same_run (goal.at.returns-in_default c).After-run_ok) ∙ c.in_default.ensures)
     ∙ whole (goal.at.returns-in_default c).At-loop-r
 
-passed : (c : In-Good) → let a = c.args in
+passed : (c : In-Some) → let a = c.args in
     run_ok a.g a.rest.now c.loop-r.at (min run_length (a.n - run_length * c.loop-r.r)) (summary_at a.section.now c.loop-r.r) ≡ true
-passed c = sym (same_run (goal.at.In-Good c).After-run_ok) ∙ (was_good _ _ c.run_ok.result _ c.run_ok.ensures c.in-Good.is).0
+passed c = sym (same_run (goal.at.In-Some c).After-run_ok) ∙ c.in-Some.ensures.0
 
-ends : (c : In-Good) → let a = c.args in
+ends : (c : In-Some) → let a = c.args in
     let x = c.summary_at-x.result in
     (x.width ≤ max_width) × (c.loop-r.at + packed_bytes c.count_in-count.result x.width ≤ length a.rest.now)
 ends c =
     let a = c.args in
     let p = Ran.passed a.g a.rest.now c.loop-r.at c.count_in-count.result (summary_is c.summary_at-x.result)
-    (same_run (goal.at.In-Good c).After-run_ok ∙ passed c) in
+    (same_run (goal.at.In-Some c).After-run_ok ∙ passed c) in
     (p.narrow, p.within)
 
 pub packed_bytes-requires : goal.packed_bytes-requires
 packed_bytes-requires c =
-    (omega (arith, c.count_in-count.ensures), (ends (goal.at.packed_bytes-requires c).In-Good).0)
+    (omega (arith, c.count_in-count.ensures), (ends (goal.at.packed_bytes-requires c).In-Some).0)
 
 pub loop-r-preserved : goal.loop-r-preserved
 loop-r-preserved c =
@@ -73,17 +57,17 @@ loop-r-preserved c =
     let x = c.summary_at-x.ensures.0 in
     let e = c.count_in-count.ensures in (
       omega (arith, c.loop-r-test.true),
-      omega (arith, (ends (goal.at.loop-r-preserved c).In-Good).1, c.packed_bytes.ensures.0),
+      omega (arith, (ends (goal.at.loop-r-preserved c).In-Some).1, c.packed_bytes.ensures.0),
       c.loop-r.invariant.2
           ∙ run_good a.g a.section.now a.rest.now a.n c.run_count-runs.result c.loop-r.r c.loop-r.at c.loop-r.apart c.loop-r.d
-          c.loop-r-test.true (passed (goal.at.loop-r-preserved c).In-Good)
+          c.loop-r-test.true (passed (goal.at.loop-r-preserved c).In-Some)
           (ap (λ (b : ℕ). c.loop-r.at + b)
           (c.packed_bytes.ensures.0 ∙ ap₂ (λ (i w : ℕ). packed_bytes i w) e (ap (λ (y : Summary). y.width) x)))
           (c.gcd-apart.ensures
           ∙ ap (gcd c.loop-r.apart)
           (c.distance.ensures
           ∙ ap₂ over (ap (λ (y : Summary). y.smallest) c.summary_at-base.ensures.0) (ap (λ (y : Summary). y.smallest) x)))
-          ((was_good _ _ c.run_ok.result _ c.run_ok.ensures c.in-Good.is).1
+          (c.in-Some.ensures.1
           ∙ ap₂ (λ (i w : ℕ). gcd_from c.loop-r.d (numbers_at a.rest.now c.loop-r.at i w)) e (ap (λ (y : Summary). y.width) x)),
     )
 
@@ -105,19 +89,3 @@ returns c =
     ∙ runs_over a.g a.section.now a.rest.now a.n c.run_count-runs.result c.loop-r.r c.loop-r.at c.loop-r.apart c.loop-r.d
     c.loop-r-test.false
     ∙ rw (eq-eqb c.loop-r.at (length a.rest.now) c.if-at-rest.false))
-
-pub summary_at-base-requires : goal.summary_at-base-requires
-summary_at-base-requires c = omega
-    (arith, c.requires.0, c.loop-r-test.true, c.run_count-runs.ensures)
-
-pub overflow_add-at : goal.overflow_add-at
-overflow_add-at c = omega (arith, (ends (goal.at.overflow_add-at c).In-Good).1, c.packed_bytes.ensures.0)
-
-pub overflow_add-r : goal.overflow_add-r
-overflow_add-r c = omega (arith, c.loop-r-test.true)
-
-pub loop-r-smaller : goal.loop-r-smaller
-loop-r-smaller c = omega (arith, c.loop-r-test.true)
-
-pub divisor_ok-requires : goal.divisor_ok-requires
-divisor_ok-requires c = c.requires.1

@@ -7,6 +7,3 @@ use Rattle.run_check.proofs.runs_ok.Given as goal
 abbrev pub invariant-loop-r : goal.invariant-loop-r
 invariant-loop-r l =
     (l.r ≤ l.runs) × (l.at ≤ length l.rest) × (runs_ok l.g l.section l.rest l.n l.runs 0 0 0 0 ≡ runs_ok l.g l.section l.rest l.n (l.runs - l.r) l.r l.at l.apart l.d)
-
-abbrev pub decreases-loop-r : goal.decreases-loop-r
-decreases-loop-r l = l.runs - l.r

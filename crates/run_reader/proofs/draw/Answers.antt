@@ -12,7 +12,7 @@ use Rattle.run_values.specs.Summaries.{summary_is}
 use Rattle.run_values.proofs.Reached.{Rules, rules_kept}
 use Rattle.run_reader.proofs.Rest.{drawn_same, drawn_rest}
 use Rattle.run_reader.proofs.draw.Goals as goal
-use Rattle.run_reader.proofs.draw.Goals.{After-smaller-most, Else-from-end, Start}
+use Rattle.run_reader.proofs.draw.Goals.{After-min, Else-from-end, Start}
 
 the_rules : (s : Start) → Rules s.args.n (fields_of s.args.fields) (length s.args.section.now)
 the_rules s = rules_kept _ _ _ s.requires.1
@@ -37,23 +37,23 @@ there c =
     (l, omega (arith, l))
 
 -- how far the run goes
-asked : (c : After-smaller-most) → let a = c.args in
-    let last = a.from + c.smaller-most.result in
+asked : (c : After-min) → let a = c.args in
+    let last = a.from + c.min.result in
     (0 < c.count_in-count.result) × (c.count_in-count.result ≤ run_length)
     × (a.from ≤ last) × (last ≤ a.end) × (a.x % 16384 + (last - a.from) ≤ c.count_in-count.result)
 asked c =
-    let t = there (goal.at.After-smaller-most c).Else-from-end in (
+    let t = there (goal.at.After-min c).Else-from-end in (
       omega (arith, c.count_in-count.ensures, t.0),
       omega (arith, c.count_in-count.ensures),
       omega arith,
-      omega (arith, c.smaller-most.ensures, c.requires.3),
-      omega (arith, c.smaller-most.ensures, c.count_in-count.ensures, t.0),
+      omega (arith, c.min.ensures, c.requires.3),
+      omega (arith, c.min.ensures, c.count_in-count.ensures, t.0),
     )
 
 pub draw_run-requires : goal.draw_run-requires
 draw_run-requires c =
     let r = the_rules (goal.at.draw_run-requires c).Start in
-    let k = asked (goal.at.draw_run-requires c).After-smaller-most in (
+    let k = asked (goal.at.draw_run-requires c).After-min in (
       omega (arith, r.directory, c.directory_length-directory.ensures),
       omega (arith, r.positive),
       k.0,
@@ -67,8 +67,8 @@ draw_run-requires c =
 pub returns : goal.returns
 returns c =
     let a = c.args in
-    let k = asked (goal.at.returns c).After-smaller-most in
-    let last : ℕ = a.from + c.smaller-most.result in
+    let k = asked (goal.at.returns c).After-min in
+    let last : ℕ = a.from + c.min.result in
     let r : ℕ = a.x / 16384 in
     let e1 = ap (λ (y : ℕ). in_run a.fields.divisor (drop y a.section.now) (summary_is c.summary_at-summary.result)) c.directory_length-directory.ensures in
     let e2 = ap (in_run a.fields.divisor (drop (directory_length a.n) a.section.now)) c.summary_at-summary.ensures.0 in

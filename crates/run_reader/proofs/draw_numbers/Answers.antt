@@ -1,5 +1,5 @@
 -- `run_reader::draw_numbers` meets its contract. Invariant: what is left are the values from ordinal o on, and number o stands at the place that
-use Rattle.format.specs.Kit.{◌≡◌, refl, sym, ap, ap₂, ◌∙◌, subst, Option, List, ◌∷◌, ℕ, suc, ◌+◌, ◌-◌, ◌*◌, ◌%◌, ◌^◌, ◌≤◌, ◌<◌, arith, rules, ℤ, set}
+use Rattle.format.specs.Kit.{◌≡◌, sym, ap, ap₂, ◌∙◌, subst, Option, List, ◌∷◌, ℕ, suc, ◌+◌, ◌-◌, ◌*◌, ◌%◌, ◌^◌, ◌≤◌, ◌<◌, arith, rules, ℤ, set}
 use Rattle.format.specs.Kit.{length}
 use Rattle.format.specs.Kit.{bit_and, and_mask, mul-le-mul_right}
 use mir.Facts.{to_z-of_z}
@@ -8,7 +8,7 @@ use Rattle.format.specs.Stores.{Fill}
 use Rattle.format.specs.Codec.{scaled, signed64}
 use Rattle.format.specs.Values.{value_at}
 use Rattle.laws.proofs.Bits.{within}
-use Rattle.laws.proofs.Stores.{begun, one_more, filled, reached}
+use Rattle.laws.proofs.Stores.{one_more, filled, reached}
 use Rattle.laws.proofs.Fits.{fits_size}
 use Rattle.laws.proofs.Scaled.{scaled_lawful}
 use Rattle.signed.specs.Sign.{unbiased}
@@ -32,8 +32,8 @@ holds : (s : Start) → s.args.n * s.args.fields.width ≤ 8 * length s.args.sec
 holds s = omega (arith, (the_rules s).bytes)
 
 -- ordinal o is one of the n
-below : (c : In-loop-i) → c.loop-i.o < c.args.n
-below c = let l = c.loop-i in omega (arith, c.loop-i-test.true, l.invariant.2, c.requires.2)
+below : (c : In-loop-i) → (c.args.x + (c.loop-i.i - c.args.from)) < c.args.n
+below c = omega (arith, c.loop-i-test.true, c.loop-i.invariant.0, c.requires.2)
 
 pub byte_of-at-requires : goal.byte_of-at-requires
 byte_of-at-requires c =
@@ -42,101 +42,74 @@ byte_of-at-requires c =
 
 -- what is drawn is step 7
 read : (c : After-value_above) → let a = c.args in
-    fetched_of c.value_above.result ≡ (scaled (packing_of Od.Order.High)).value a.n (fields_of a.fields) a.section.now c.loop-i.o
+    fetched_of c.value_above.result ≡ (scaled (packing_of Od.Order.High)).value a.n (fields_of a.fields) a.section.now (c.args.x + (c.loop-i.i - c.args.from))
 read c =
     let a = c.args in
     let small : a.fields.smallest < 2 ^ 64 = (omega (arith, c.well_formed)) in
     c.value_above.ensures
     ∙ ap₂ (λ (m k : ℕ). signed64 (value_at (unbiased m) a.fields.divisor k)) c.biased_of-low.ensures c.next_of-stored.ensures
-    ∙ sym (whole_value Od.Order.High a.n (fields_of a.fields) a.section.now c.loop-i.o small)
+    ∙ sym (whole_value Od.Order.High a.n (fields_of a.fields) a.section.now (c.args.x + (c.loop-i.i - c.args.from)) small)
 
 pub returns-in_default : goal.returns-in_default
 returns-in_default c =
     let l = c.loop-i in
     let e = drawn_none _ _ _ (sym (read (goal.at.returns-in_default c).After-value_above) ∙ ap fetched_of c.in_default.is) in
-    (reached _ _ _ _ _ _ l.invariant.3 e, filled _ _ _ _ _ _ l.invariant.3 e)
+    (reached _ _ _ _ _ _ l.invariant.2 e, filled _ _ _ _ _ _ l.invariant.2 e)
 
 pub loop-i-preserved : goal.loop-i-preserved
 loop-i-preserved c =
     let l = c.loop-i in
     let a = c.args in
     let w : ℕ = a.fields.width in
-    let z = c.in-Value.value in
+    let ord : ℕ = a.x + (l.i - a.from) in
+    let z = c.in-Some.value in
     let f : ℕ → Option ℤ = (scaled (packing_of Od.Order.High)).value a.n (fields_of a.fields) a.section.now in
-    let o = sym (read (goal.at.loop-i-preserved c).After-value_above) ∙ ap fetched_of c.in-Value.is in
-    let m = fits_size z ((scaled_lawful (packing_of Od.Order.High) (sound_of Od.Order.High)).fit a.n (fields_of a.fields) a.section.now l.o z o) in
+    let o = sym (read (goal.at.loop-i-preserved c).After-value_above) ∙ ap fetched_of c.in-Some.is in
+    let m = fits_size z ((scaled_lawful (packing_of Od.Order.High) (sound_of Od.Order.High)).fit a.n (fields_of a.fields) a.section.now ord z o) in
     let k : a.end - l.i ≡ suc (a.end - (l.i + 1)) = omega (arith, c.loop-i-test.true) in
-    let one : suc l.o ≡ l.o + 1 = omega arith in
-    let more = ap (λ (j : ℕ). drawn f j l.o) k ∙ drawn_some f (a.end - (l.i + 1)) l.o z o
+    let one : suc ord ≡ a.x + (l.i + 1 - a.from) = omega (arith, l.invariant.0) in
+    let next : ord + 1 ≡ a.x + (l.i + 1 - a.from) = omega (arith, l.invariant.0) in
+    let more = ap (λ (j : ℕ). drawn f j ord) k ∙ drawn_some f (a.end - (l.i + 1)) ord z o
     ∙ ap (λ (y : ℕ). z ∷ drawn f (a.end - (l.i + 1)) y) one in
     let g : bit_and (l.skip + w) 7 ≡ (l.skip + w) % 8 = and_mask (l.skip + w) 3 in (
       omega arith,
       omega (arith, c.loop-i-test.true),
-      omega (arith, l.invariant.2, c.loop-i-test.true),
-      subst (λ (y : List ℤ). Fill a.values.now a.from (drawn f (a.end - a.from) a.x) y (l.i + 1) (drawn f (a.end - (l.i + 1)) (l.o + 1)))
+      subst (λ (y : List ℤ). Fill a.values.now a.from (drawn f (a.end - a.from) a.x) y (l.i + 1) (drawn f (a.end - (l.i + 1)) (a.x + (l.i + 1 - a.from))))
           (sym (ap (set l.values l.i) (to_z-of_z {w = w64} {z = z} (record { sfits = m }))))
-          (one_more _ _ _ _ _ _ l.invariant.3 z _ more),
-      rw g (place_next l.o w l.at l.skip l.invariant.4),
+          (one_more _ _ _ _ _ _ l.invariant.2 z _ more),
+      rw g (place_next ord w l.at l.skip l.invariant.3 ∙ ap (λ (j : ℕ). j * w) next),
       omega (arith, g),
     )
 
 pub overflow_add-at : goal.overflow_add-at
 overflow_add-at c =
     let l = c.loop-i in
-    let e = within l.o c.args.fields.width c.args.n (below (goal.at.overflow_add-at c).In-loop-i) in
+    let e = within (c.args.x + (l.i - c.args.from)) c.args.fields.width c.args.n (below (goal.at.overflow_add-at c).In-loop-i) in
     let f = holds (goal.at.overflow_add-at c).Start in
-    let h : l.at * 8 + l.skip + c.args.fields.width ≤ 8 * length c.args.section.now = omega (arith, l.invariant.4) in
+    let h : l.at * 8 + l.skip + c.args.fields.width ≤ 8 * length c.args.section.now = omega (arith, l.invariant.3) in
     search rules
 
 pub returns : goal.returns
 returns c =
     let l = c.loop-i in
     let z : c.args.end - l.i ≡ 0 = omega (arith, c.loop-i-test.false, l.invariant.1) in
-    let e = drawn_zero _ _ l.o z in
-    (reached _ _ _ _ _ _ l.invariant.3 e, filled _ _ _ _ _ _ l.invariant.3 e)
+    let e = drawn_zero _ _ (c.args.x + (l.i - c.args.from)) z in
+    (omega (arith, c.loop-i-test.false, l.invariant.1, reached _ _ _ _ _ _ l.invariant.2 e), filled _ _ _ _ _ _ l.invariant.2 e)
 
 pub skip_of-skip-requires : goal.skip_of-skip-requires
 skip_of-skip-requires c = (the_rules (goal.at.skip_of-skip-requires c).Start).narrow
 
-pub loop-i-init : goal.loop-i-init
-loop-i-init c = (
-  search rules,
-  c.requires.3,
-  refl,
-  begun _ _ _ _ refl,
-  omega (arith, c.byte_of-at.ensures, c.skip_of-skip.ensures),
-  omega (arith, c.skip_of-skip.ensures),
-)
-
 pub next_of-stored-requires : goal.next_of-stored-requires
 next_of-stored-requires c = let v = c.loop-i.invariant in
-    ((the_rules (goal.at.next_of-stored-requires c).Start).allowed, below c, holds (goal.at.next_of-stored-requires c).Start, v.4, v.5)
-
-pub value_above-requires : goal.value_above-requires
-value_above-requires c = omega (arith, (the_rules (goal.at.value_above-requires c).Start).positive)
-
-pub shape_of-values-in_default : goal.shape_of-values-in_default
-shape_of-values-in_default c = c.loop-i.invariant.3.kept
-
-pub bounds-values-i : goal.bounds-values-i
-bounds-values-i c = omega (arith, c.loop-i.invariant.3.kept, c.loop-i-test.true, c.requires.4)
-
-pub overflow_add-o : goal.overflow_add-o
-overflow_add-o c = omega (arith, below (goal.at.overflow_add-o c).In-loop-i, c.requires.0)
-
-pub overflow_add-i : goal.overflow_add-i
-overflow_add-i c = omega (arith, c.loop-i-test.true)
+    ((the_rules (goal.at.next_of-stored-requires c).Start).allowed, below c, holds (goal.at.next_of-stored-requires c).Start, v.3, v.4)
 
 pub overflow_add-next : goal.overflow_add-next
 overflow_add-next c = omega (
   arith,
-  c.loop-i.invariant.5,
+  c.loop-i.invariant.4,
   (the_rules
       (goal.at.overflow_add-next c).Start).narrow,
 )
 
-pub loop-i-smaller : goal.loop-i-smaller
-loop-i-smaller c = omega (arith, c.loop-i-test.true)
-
-pub shape_of-values : goal.shape_of-values
-shape_of-values c = c.loop-i.invariant.3.kept
+pub value_above-requires : goal.value_above-requires
+value_above-requires c = omega (arith, (the_rules (goal.at.value_above-requires c).Start).positive)

@@ -5,7 +5,9 @@ use Rattle.format.specs.Editions.{runs, codec}
 use Rattle.format.specs.FirstBetween.{runs_from}
 use Rattle.answers.specs.Replies.{fields_of}
 use Rattle.signed.specs.Sign.{unbiased}
-use Rattle.run_search.proofs.Left.{run_none, run_found, runs_end}
+use Rattle.run_search.proofs.Left.{run_left, runs_end}
+use Rattle.std.specs.Prelude.{Some, None, Ok, Err}
+use Rattle.std.proofs.lemmas.Result.{err_from_is_err_and}
 use Rattle.run_search.proofs.in_runs.Goals as goal
 use Rattle.run_search.proofs.in_runs.Goals.{At-loop-r}
 
@@ -22,19 +24,27 @@ whole l =
     (unbiased a.high) a.n (k - a.first) a.first)
     l.run_count-runs.ensures
 
-pub returns-in_default : goal.returns-in_default
-returns-in_default c =
+-- what run r says, and then the rest
+pub returns-in-Some : goal.returns-in-Some
+returns-in-Some c =
     let a = c.args in
-    run_found _ (summary_at a.section.now) (unbiased a.low) (unbiased a.high) a.n c.loop-r.r c.run_count-runs.result
-    c.loop-r-test.true c.in_run-found.result c.in_run-found.ensures c.in_default.not-Nothing
-    ∙ whole (goal.at.returns-in_default c).At-loop-r
+    run_left _ (summary_at a.section.now) (unbiased a.low) (unbiased a.high) a.n c.loop-r.r c.run_count-runs.result c.loop-r-test.true
+    (Ok (Some c.in-Some.ordinal)) (rw c.in-Some.is at c.in_ok-ordinal.ensures) ∙ whole (goal.at.returns-in-Some c).At-loop-r
+
+pub returns-in_err-ordinal : goal.returns-in_err-ordinal
+returns-in_err-ordinal c =
+    let a = c.args in
+    let p = err_from_is_err_and c.from_residual.result c.from_residual.ensures.1 in
+    rw (p.1, p.2)
+    (run_left _ (summary_at a.section.now) (unbiased a.low) (unbiased a.high) a.n c.loop-r.r c.run_count-runs.result c.loop-r-test.true
+    (Err c.in_err-ordinal.field-0.0) c.in_err-ordinal.ensures ∙ whole (goal.at.returns-in_err-ordinal c).At-loop-r)
 
 pub loop-r-preserved : goal.loop-r-preserved
 loop-r-preserved c =
     let a = c.args in
     c.loop-r.invariant
-    ∙ run_none _ (summary_at a.section.now) (unbiased a.low) (unbiased a.high) a.n c.loop-r.r c.run_count-runs.result
-    c.loop-r-test.true c.in_run-found.result c.in_run-found.ensures c.in-Nothing.is
+    ∙ sym (run_left _ (summary_at a.section.now) (unbiased a.low) (unbiased a.high) a.n c.loop-r.r c.run_count-runs.result c.loop-r-test.true
+    (Ok None) (rw c.in_default.is at c.in_ok-ordinal.ensures))
 
 pub returns : goal.returns
 returns c =
@@ -45,5 +55,5 @@ returns c =
 pub loop-r-init : goal.loop-r-init
 loop-r-init c = refl
 
-pub in_run-found-requires : goal.in_run-found-requires
-in_run-found-requires c = (c.requires.0, omega (arith, c.loop-r-test.true, c.run_count-runs.ensures), omega arith)
+pub in_run-requires : goal.in_run-requires
+in_run-requires c = (c.requires.0, omega (arith, c.loop-r-test.true, c.run_count-runs.ensures), omega arith)

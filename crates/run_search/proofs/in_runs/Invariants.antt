@@ -11,6 +11,3 @@ abbrev pub invariant-loop-r : goal.invariant-loop-r
 invariant-loop-r l =
     runs_from ((codec runs).value l.n (fields_of l.fields) l.section) (summary_at l.section) (unbiased l.low) (unbiased l.high) l.n (l.runs - l.first) l.first
     ≡ runs_from ((codec runs).value l.n (fields_of l.fields) l.section) (summary_at l.section) (unbiased l.low) (unbiased l.high) l.n (l.runs - l.r) l.r
-
-abbrev pub decreases-loop-r : goal.decreases-loop-r
-decreases-loop-r l = l.runs - l.r

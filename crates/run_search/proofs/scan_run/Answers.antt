@@ -13,7 +13,7 @@ use Rattle.scaled_values.specs.Slots.{slot_value}
 use Rattle.run_values.proofs.Reached.{Rules, rules_kept}
 use Rattle.run_search.proofs.Left.{scan_broken, scan_here, scan_on, scan_end}
 use Rattle.run_search.proofs.scan_run.Goals as goal
-use Rattle.run_search.proofs.scan_run.Goals.{After-value_of-fetched, After-within, At-loop-k, In-loop-k, Start}
+use Rattle.run_search.proofs.scan_run.Goals.{After-value_of, After-within, At-loop-k, In-loop-k, Start}
 
 the_rules : (s : Start) → Rules s.args.n (fields_of s.args.fields) (length s.args.section.now)
 the_rules s = rules_kept _ _ _ s.requires.0
@@ -29,15 +29,15 @@ slot_in-slot-requires c =
     (omega (arith, (the_rules (goal.at.slot_in-slot-requires c).Start).directory, c.directory_length-start.ensures), short c)
 
 -- step 7 of the ordinal
-value : (c : After-value_of-fetched) → let a = c.args in
-    fetched_of c.value_of-fetched.result ≡ (codec runs).value a.n (fields_of a.fields) a.section.now (run_length * a.r + c.loop-k.k)
+value : (c : After-value_of) → let a = c.args in
+    fetched_of c.value_of.result ≡ (codec runs).value a.n (fields_of a.fields) a.section.now (run_length * a.r + c.loop-k.k)
 value c =
     let a = c.args in
-    c.value_of-fetched.ensures ∙ ap (slot_value a.fields.divisor c.slot_in-slot.result) c.number_in-stored.ensures
+    c.value_of.ensures ∙ ap (slot_value a.fields.divisor c.slot_in-slot.result) c.number_in-stored.ensures
     ∙ c.slot_in-slot.ensures.1 a.fields.divisor
     ∙ ap₂ (λ (d : ℕ) (y : Summary). in_run a.fields.divisor (drop d a.section.now) y c.loop-k.k) c.directory_length-start.ensures
     c.requires.2
-    ∙ value_in a.n (fields_of a.fields) a.section.now a.r c.loop-k.k (short (goal.at.After-value_of-fetched c).In-loop-k)
+    ∙ value_in a.n (fields_of a.fields) a.section.now a.r c.loop-k.k (short (goal.at.After-value_of c).In-loop-k)
 
 -- what is left is the whole
 whole : (l : At-loop-k) (more : Outcome (Option ℕ)) → let a = l.args in
@@ -55,12 +55,12 @@ whole l more =
 pub returns-in_default : goal.returns-in_default
 returns-in_default c =
     let a = c.args in
-    let e = sym (value (goal.at.returns-in_default c).After-value_of-fetched) ∙ ap fetched_of c.in_default.is in
+    let e = sym (value (goal.at.returns-in_default c).After-value_of) ∙ ap fetched_of c.in_default.is in
     λ more. scan_broken _ (unbiased a.low) (unbiased a.high) c.count_in-count.result (run_length * a.r) c.loop-k.k more
     c.loop-k-test.true e ∙ whole (goal.at.returns-in_default c).At-loop-k more
 
-pub overflow_add-ordinal : goal.overflow_add-ordinal
-overflow_add-ordinal c =
+pub overflow_add-result : goal.overflow_add-result
+overflow_add-result c =
     omega (
       arith,
       c.count_in-count.ensures,
@@ -71,15 +71,15 @@ overflow_add-ordinal c =
 -- a value that is there, and whether it is in the range
 there : (c : After-within) → let a =
     c.args in
-    (codec runs).value a.n (fields_of a.fields) a.section.now (run_length * a.r + c.loop-k.k) ≡ some c.in-Value.v
-there c = sym (value (goal.at.After-within c).After-value_of-fetched) ∙ ap fetched_of c.in-Value.is
+    (codec runs).value a.n (fields_of a.fields) a.section.now (run_length * a.r + c.loop-k.k) ≡ some c.in-Some.v
+there c = sym (value (goal.at.After-within c).After-value_of) ∙ ap fetched_of c.in-Some.is
 
 tested : (c : After-within) →
     let a = c.args in
-    c.within.result ≡ between (unbiased a.low) (unbiased a.high) c.in-Value.v
+    c.within.result ≡ between (unbiased a.low) (unbiased a.high) c.in-Some.v
 tested c =
     let a = c.args in
-    let v = c.in-Value.v in
+    let v = c.in-Some.v in
     c.within.ensures
     ∙ ap (between (unbiased a.low) (unbiased a.high)) (read_back v (fits_size v ((lawful runs).fit _ _ _ _ v (there c))))
 
@@ -112,5 +112,5 @@ count_in-count-requires c = omega (arith, c.requires.1)
 pub number_in-stored-requires : goal.number_in-stored-requires
 number_in-stored-requires c = c.slot_in-slot.ensures.0
 
-pub value_of-fetched-requires : goal.value_of-fetched-requires
-value_of-fetched-requires c = (the_rules (goal.at.value_of-fetched-requires c).Start).positive
+pub value_of-requires : goal.value_of-requires
+value_of-requires c = (the_rules (goal.at.value_of-requires c).Start).positive

@@ -14,6 +14,3 @@ invariant-loop-k l =
     ((more : Outcome (Option ℕ)) → scan_from ((codec runs).value l.n (fields_of l.fields) l.section) (unbiased l.low) (unbiased l.high) (l.count - l.from)
     (run_length * l.r + l.from) more
     ≡ scan_from ((codec runs).value l.n (fields_of l.fields) l.section) (unbiased l.low) (unbiased l.high) (l.count - l.k) (run_length * l.r + l.k) more)
-
-abbrev pub decreases-loop-k : goal.decreases-loop-k
-decreases-loop-k l = l.count - l.k

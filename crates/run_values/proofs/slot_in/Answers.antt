@@ -3,7 +3,7 @@ use Rattle.format.specs.Kit.{◌≡◌, sym, ◌∙◌, true, ◌+◌, ◌-◌, 
 use Rattle.format.specs.Limits.{max_width}
 use Rattle.format.specs.Editions.{high_first}
 use Rattle.run_values.specs.Summaries.{summary_is, reaches_in}
-use Rattle.run_values.proofs.Reached.{narrow, reach, at_reached, not_reached, reached}
+use Rattle.run_values.proofs.Reached.{narrow, at_reached, not_reached, reached}
 use Rattle.run_values.proofs.slot_in.Goals as goal
 use Rattle.run_values.proofs.slot_in.Goals.{After-fetched_from, Else-not-reaches}
 
@@ -24,11 +24,6 @@ pub returns-then-not-reaches : goal.returns-then-not-reaches
 returns-then-not-reaches c =
     let a = c.args in
     (tt, λ g. not_reached a.section.now a.from g (summary_is a.x) a.k (sym c.reaches.ensures ∙ c.if-not-reaches.true))
-
-pub fetched_from-requires : goal.fetched_from-requires
-fetched_from-requires c =
-    let a = c.args in
-    λ z. omega (arith, reach (length a.section.now - a.from) a.x.start a.x.width a.k (inside c) z, c.requires.0)
 
 pub returns : goal.returns
 unfolding high_first

@@ -1,5 +1,5 @@
 -- `run_writer::length` meets its contract. The loop's invariant: the sum is the directory and the bytes of the runs before run r.
-use Rattle.format.specs.Kit.{◌≡◌, sym, ap, ap₂, ◌∙◌, ℕ, List, ℤ, [], ◌+◌, ◌-◌, ◌<◌, add-zero, add-one, arith, length, get_or}
+use Rattle.format.specs.Kit.{◌≡◌, sym, ap, ap₂, ◌∙◌, ℕ, List, ℤ, [], ◌+◌, ◌<◌, add-zero, add-one, arith, length, get_or}
 use Rattle.format.specs.Bytes.{bytes_of}
 use Rattle.format.specs.Bits.{packed_bytes}
 use Rattle.format.specs.Values.{divisor, width_with}
@@ -79,13 +79,6 @@ summary_of-x-requires c = omega (arith, own (goal.at.summary_of-x-requires c).St
 
 pub packed_bytes-sum-requires : goal.packed_bytes-sum-requires
 packed_bytes-sum-requires c = (omega (arith, c.count_in.ensures), c.summary_of-x.ensures.1)
-
-pub overflow_add-r : goal.overflow_add-r
-overflow_add-r c = omega (arith, there (goal.at.overflow_add-r c).In-loop-r)
-
-pub loop-r-smaller : goal.loop-r-smaller
-loop-r-smaller c = omega
-    (arith, there (goal.at.loop-r-smaller c).In-loop-r, c.loop-r-test.true)
 
 pub loop-r-preserved : goal.loop-r-preserved
 loop-r-preserved c = (omega (arith, c.loop-r-test.true), next_sum c)

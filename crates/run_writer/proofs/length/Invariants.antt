@@ -1,4 +1,4 @@
-use Rattle.format.specs.Kit.{◌≡◌, ◌+◌, ◌-◌, ◌≤◌}
+use Rattle.format.specs.Kit.{◌≡◌, ◌+◌, ◌≤◌}
 use Rattle.format.specs.Values.{divisor}
 use Rattle.format.specs.ValueRuns.{directory_length, runs_of}
 use Rattle.laws.proofs.ValueRuns.{run_start}
@@ -8,6 +8,3 @@ use Rattle.run_writer.proofs.length.Given as goal
 -- Assumes nothing.
 abbrev pub invariant-loop-r : goal.invariant-loop-r
 invariant-loop-r l = (l.r ≤ l.count) × (l.sum ≡ directory_length l.n + run_start (divisor l.values) (runs_of l.values) l.r)
-
-abbrev pub decreases-loop-r : goal.decreases-loop-r
-decreases-loop-r l = l.count - l.r

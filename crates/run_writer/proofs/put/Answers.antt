@@ -1,5 +1,5 @@
 -- `run_writer::put` meets its contract. The loop's invariant: what is left of the directory and of the runs, put where it goes, makes the whole
-use Rattle.format.specs.Kit.{◌≡◌, sym, ap, ap₂, ◌∙◌, subst, ℕ, List, ℤ, [], ◌++◌, ◌+◌, ◌-◌, ◌*◌, ◌≤◌, ◌<◌, arith, length, get_or, drop, sets}
+use Rattle.format.specs.Kit.{◌≡◌, sym, ap, ap₂, ◌∙◌, subst, ℕ, List, ℤ, [], ◌++◌, ◌+◌, ◌*◌, ◌≤◌, ◌<◌, arith, length, get_or, drop, sets}
 use Rattle.format.specs.Values.{divisor}
 use Rattle.format.specs.Pairs.{Each, Fits}
 use Rattle.format.specs.Codec.{Fields}
@@ -88,12 +88,6 @@ count_in-requires c = omega (arith, there c)
 
 pub overflow_add-j : goal.overflow_add-j
 overflow_add-j c = omega (arith, (here c).ends)
-
-pub overflow_add-r : goal.overflow_add-r
-overflow_add-r c = omega (arith, c.loop-r-test.true)
-
-pub loop-r-smaller : goal.loop-r-smaller
-loop-r-smaller c = omega (arith, c.loop-r-test.true)
 
 pub loop-r-preserved : goal.loop-r-preserved
 loop-r-preserved c = (omega (arith, c.loop-r-test.true), laid (goal.at.loop-r-preserved c).After-put_run-start)

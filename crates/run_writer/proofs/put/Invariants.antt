@@ -1,4 +1,4 @@
-use Rattle.format.specs.Kit.{◌-◌, ◌≤◌}
+use Rattle.format.specs.Kit.{◌≤◌}
 use Rattle.format.specs.Values.{divisor}
 use Rattle.format.specs.ValueRuns.{runs_of}
 use Rattle.run_writer.proofs.Laid.{Laid}
@@ -8,6 +8,3 @@ use Rattle.run_writer.proofs.put.Given as goal
 -- section. Assumes nothing.
 abbrev pub invariant-loop-r : goal.invariant-loop-r
 invariant-loop-r l = (l.r ≤ l.count) × Laid (divisor l.values) (runs_of l.values) l.initial.out l.out l.r l.start
-
-abbrev pub decreases-loop-r : goal.decreases-loop-r
-decreases-loop-r l = l.count - l.r

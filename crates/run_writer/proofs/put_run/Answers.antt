@@ -1,7 +1,7 @@
 -- `run_writer::put_run` meets its contract. Assumes nothing.
 use Rattle.format.specs.Kit.{◌≡◌, sym, ap, ap₂, ◌∙◌, subst, ℕ, List, ◌++◌, ◌+◌, ◌-◌, ◌*◌, ◌≤◌, arith, length, take, drop, length-take-le, length-drop, sets}
 use Rattle.format.specs.Bits.{packed_bytes, packed}
-use Rattle.format.specs.Values.{smallest, width_with, stored_with}
+use Rattle.format.specs.Values.{width_with, stored_with}
 use Rattle.format.specs.ValueRuns.{Summary, summary_of, summary_bytes, run_bytes}
 use Rattle.format.specs.Editions.{high_first}
 use Rattle.laws.proofs.ValueRuns.{length_run}

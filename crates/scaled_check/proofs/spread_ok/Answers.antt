@@ -1,5 +1,5 @@
 -- `scaled_check::spread_ok` meets its contract. Assumes nothing.
-use Rattle.format.specs.Kit.{◌≡◌, sym, ◌∙◌, ◌&&◌, ◌-◌, ◌*◌, ◌^◌, ◌≤◌, mul-le-mul, arith, length, rules}
+use Rattle.format.specs.Kit.{◌≡◌, sym, ◌∙◌, ◌&&◌, ◌-◌, ◌*◌, ◌^◌, ◌≤◌, mul-le-mul, arith, length}
 use Rattle.format.specs.Limits.{max_count, max_width}
 use Rattle.answers.specs.Replies.{fields_of}
 use Rattle.scaled_values.specs.Held.{numbers_in}
@@ -31,12 +31,12 @@ tested : (c : After-spare_ok) → let a = c.args in let h = fields_of a.fields i
 unfolding spread_ok
 tested c = rw (c.spare_ok.ensures, c.size.ensures)
 
-pub returns-then-not-spare_ok : goal.returns-then-not-spare_ok
-returns-then-not-spare_ok c = sym (tested (goal.at.returns-then-not-spare_ok c).After-spare_ok ∙ rw c.if-not-spare_ok.true)
+pub returns-else-spare_ok : goal.returns-else-spare_ok
+returns-else-spare_ok c = c.if-spare_ok.false ∙ sym (tested (goal.at.returns-else-spare_ok c).After-spare_ok ∙ rw c.if-spare_ok.false)
 
-pub returns : goal.returns
-returns c =
-    c.numbers_ok.ensures ∙ sym (tested (goal.at.returns c).After-spare_ok ∙ rw c.if-not-spare_ok.false)
+pub returns-then-spare_ok : goal.returns-then-spare_ok
+returns-then-spare_ok c =
+    c.ok.ensures ∙ sym (tested (goal.at.returns-then-spare_ok c).After-spare_ok ∙ rw c.if-spare_ok.true)
 
 pub overflow_sub-spare : goal.overflow_sub-spare
 overflow_sub-spare c = (spare c).0
@@ -44,6 +44,5 @@ overflow_sub-spare c = (spare c).0
 pub spare_ok-requires : goal.spare_ok-requires
 spare_ok-requires c = omega (arith, (spare c).1)
 
-pub numbers_ok-requires : goal.numbers_ok-requires
-numbers_ok-requires c = let p = c.requires in
-    record { few = p.0; rules = p.1; some = p.2 }
+pub invariant_of-numbers : goal.invariant_of-numbers
+invariant_of-numbers c = let p = c.requires in record { kept = record { few = p.0; rules = p.1; some = p.2 } }

@@ -1,4 +1,4 @@
-use Rattle.format.specs.Kit.{◌≡◌, ◌+◌, ◌-◌, ◌*◌, ◌≤◌, ◌<◌}
+use Rattle.format.specs.Kit.{◌+◌, ◌-◌}
 use Rattle.format.specs.Stores.{Fill}
 use Rattle.format.specs.Codec.{scaled}
 use Rattle.packings.specs.Packings.{packing_of}
@@ -6,14 +6,8 @@ use Rattle.answers.specs.Replies.{fields_of}
 use Rattle.format.specs.Drawn.{drawn}
 use Rattle.scaled_reader.proofs.draw.Given as goal
 
--- `scaled_reader::draw` meets its contract. Invariant: what is left are the values from ordinal o on, and number o stands at the place that
--- is kept. Assumes nothing.
+-- `scaled_reader::draw` meets its contract. Invariant: what is left are the values from the place's ordinal on. Assumes nothing.
 abbrev pub invariant-loop-i : goal.invariant-loop-i
 invariant-loop-i l =
-    (l.from ≤ l.i) × (l.i ≤ l.end) × (l.o + (l.end - l.i) ≡ l.x + (l.end - l.from))
-    × Fill l.initial.values l.from (drawn ((scaled (packing_of l.order)).value l.n (fields_of l.fields) l.section) (l.end - l.from) l.x) l.values l.i
-    (drawn ((scaled (packing_of l.order)).value l.n (fields_of l.fields) l.section) (l.end - l.i) l.o)
-    × (l.at * 8 + l.skip ≡ l.o * l.fields.width) × (l.skip < 8)
-
-abbrev pub decreases-loop-i : goal.decreases-loop-i
-decreases-loop-i l = l.end - l.i
+    Fill l.initial.values l.from (drawn ((scaled (packing_of l.order)).value l.n (fields_of l.fields) l.section) (l.end - l.from) l.x) l.values l.i
+    (drawn ((scaled (packing_of l.order)).value l.n (fields_of l.fields) l.section) (l.end - l.i) (l.x + (l.i - l.from)))

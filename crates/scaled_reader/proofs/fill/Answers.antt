@@ -1,17 +1,15 @@
 -- `scaled_reader::fill` meets its contract. The loop's invariant holds since number i stands at the place that is kept, and the place then
-use Rattle.format.specs.Kit.{◌≡◌, refl, sym, ap, subst, ◌∙◌, List, ◌∷◌, ◌++◌, ℕ, ◌+◌, ◌-◌, ◌*◌, ◌%◌, ◌^◌, ◌<◌, ◌≤◌, mul-le-mul_right, arith, rules}
-use Rattle.format.specs.Kit.{bit_and, and_mask, ℤ, length, drop}
+use Rattle.format.specs.Kit.{◌≡◌, refl, sym, ap, subst, ◌∙◌, List, ◌∷◌, ◌++◌, ℕ, ◌+◌, ◌*◌, ◌^◌, ◌<◌, ◌≤◌, arith, rules}
+use Rattle.format.specs.Kit.{and_mask, ℤ, length, drop}
 use mir.Syntax.{w64}
 use mir.Val.{to_z, of_z}
 use mir.Facts.{to_z-of_z}
 use Rattle.format.specs.Pairs.{Each, Fits}
 use Rattle.answers.specs.Replies.{fields_of}
-use Rattle.laws.proofs.Bits.{within}
 use Rattle.laws.proofs.Stores.{begun, one_more, filled, sets_front}
-use Rattle.packing.proofs.Join.{place_next}
 use Rattle.packings.specs.Packings.{packing_of}
 use Rattle.scaled_values.specs.Held.{numbers_in, value_from, values_from}
-use Rattle.scaled_values.proofs.Facts.{Rules, rules_kept}
+use Rattle.scaled_values.proofs.Facts.{Rules, rules_kept, few_bits}
 use Rattle.scaled_values.proofs.Held.{all_held}
 use Rattle.scaled_reader.proofs.Each.{Sum, values_more, values_end, length_values, sum_at}
 use Rattle.scaled_reader.proofs.fill.Goals as goal
@@ -33,18 +31,17 @@ fit s =
     let h = all_held a.order a.n (fields_of a.fields) a.section.now s.requires.3.0 s.requires.3.1 in
     subst (Each Fits) (sym h.same) h.fit
 
-pub byte_of-at-requires : goal.byte_of-at-requires
-byte_of-at-requires c =
-    ((the_rules (goal.at.byte_of-at-requires c).Start).narrow, omega (arith, holds (goal.at.byte_of-at-requires c).Start, mul-le-mul_right c.args.fields.width c.fill_windows-i.ensures.0, c.well_formed))
-
 pub loop-i-init : goal.loop-i-init
-loop-i-init c =
-    let e = c.skip_of-skip.ensures in
-    (c.fill_windows-i.ensures.0, begun _ _ _ _ refl, omega (arith, c.byte_of-at.ensures), omega arith)
+loop-i-init c = begun _ _ _ _ refl
 
 -- ---- a turn
+pub overflow_mul-bit : goal.overflow_mul-bit
+overflow_mul-bit c = record { fits = few_bits (the_rules (goal.at.overflow_mul-bit c).Start) c.requires.0 (omega (arith, c.loop-i-test.true)) }
+
 pub next_of-x-requires : goal.next_of-x-requires
-next_of-x-requires c = let v = c.loop-i.invariant in ((the_rules (goal.at.next_of-x-requires c).Start).allowed, c.loop-i-test.true, holds (goal.at.next_of-x-requires c).Start, v.2, v.3)
+next_of-x-requires c =
+    let bit : ℕ = c.loop-i.i * c.args.fields.width in
+    ((the_rules (goal.at.next_of-x-requires c).Start).allowed, c.loop-i-test.true, holds (goal.at.next_of-x-requires c).Start, omega (arith, and_mask bit 3), omega (arith, and_mask bit 3))
 
 -- the sum of which the value of the number read is made
 sum : (c : After-next_of-x) → let a = c.args in
@@ -60,22 +57,11 @@ sum c =
 
 room : (c : In-loop-i) → c.loop-i.i < length c.loop-i.values
 room c =
-    let f = c.fill_windows-i in
-    omega (arith, c.loop-i-test.true, c.loop-i.invariant.1.kept, f.ensures.1.kept, c.requires.2)
+    let f = c.fill_windows-done in
+    omega (arith, c.loop-i-test.true, c.loop-i.invariant.kept, f.ensures.1.kept, c.requires.2)
 
 pub offset_bounds-values-i : goal.offset_bounds-values-i
 offset_bounds-values-i c = let r = room (goal.at.offset_bounds-values-i c).In-loop-i in search rules
-
-pub overflow_add-next : goal.overflow_add-next
-overflow_add-next c = omega (arith, c.loop-i.invariant.3, (the_rules (goal.at.overflow_add-next c).Start).narrow)
-
-pub overflow_add-at : goal.overflow_add-at
-overflow_add-at c =
-    let l = c.loop-i in
-    let e = within l.i c.args.fields.width c.args.n c.loop-i-test.true in
-    let f = holds (goal.at.overflow_add-at c).Start in
-    let h : l.at * 8 + l.skip + c.args.fields.width ≤ 8 * length c.args.section.now = omega (arith, l.invariant.2) in
-    search rules
 
 pub loop-i-preserved : goal.loop-i-preserved
 loop-i-preserved c =
@@ -83,19 +69,14 @@ loop-i-preserved c =
     let l = c.loop-i in
     let w : ℕ = a.fields.width in
     let more = values_from (fields_of a.fields) (drop (l.i + 1) (numbers_in a.order w a.n a.section.now)) in
-    let e = to_z-of_z {w = w64} {z = c.value_from-v.result} (search rules) ∙ c.value_from-v.ensures ∙ (sum (goal.at.loop-i-preserved c).After-next_of-x).value in
-    let m : bit_and (l.skip + w) 7 ≡ (l.skip + w) % 8 = and_mask (l.skip + w) 3 in (
-      omega (arith, c.loop-i-test.true),
-      one_more _ _ _ _ _ _ l.invariant.1 (to_z w64 (of_z w64 c.value_from-v.result)) _
-          (values_more a.order (fields_of a.fields) w a.n a.section.now l.i c.loop-i-test.true
-          ∙ ap {B = List ℤ} (λ (x : ℤ). x ∷ more) (sym e)),
-      rw m (place_next l.i w l.at l.skip l.invariant.2),
-      omega (arith, m),
-    )
+    let e = to_z-of_z {w = w64} {z = c.value_from.result} (search rules) ∙ c.value_from.ensures ∙ (sum (goal.at.loop-i-preserved c).After-next_of-x).value in
+    one_more _ _ _ _ _ _ l.invariant (to_z w64 (of_z w64 c.value_from.result)) _
+    (values_more a.order (fields_of a.fields) w a.n a.section.now l.i c.loop-i-test.true
+    ∙ ap {B = List ℤ} (λ (x : ℤ). x ∷ more) (sym e))
 
 -- ---- all are there
 pub shape_of-values : goal.shape_of-values
-shape_of-values c = c.loop-i.invariant.1.kept ∙ c.fill_windows-i.ensures.1.kept
+shape_of-values c = c.loop-i.invariant.kept ∙ c.fill_windows-done.ensures.1.kept
 
 pub returns : goal.returns
 returns c vs e =
@@ -105,19 +86,16 @@ returns c vs e =
     let w : ℕ = a.fields.width in
     let all = values_from f (numbers_in a.order w a.n a.section.now) in
     let n : length all ≡ a.n = length_values a.order f w a.n a.section.now in
-    filled _ _ _ _ _ _ l.invariant.1 (values_end a.order f w a.n a.section.now l.i (omega (arith, l.invariant.0, c.loop-i-test.false)))
-    ∙ c.fill_windows-i.ensures.1.same
+    filled _ _ _ _ _ _ l.invariant (values_end a.order f w a.n a.section.now l.i (omega (arith, c.loop-i-test.false, c.loop-i.auto.i-end, c.fill_windows-done.ensures.0)))
+    ∙ c.fill_windows-done.ensures.1.same
     ∙ sets_front a.values.now all (omega (arith, c.requires.2)) ∙ ap (λ (k : ℕ). all ++ drop k a.values.now) n
     ∙ ap (λ (z : List ℤ). z ++ drop a.n a.values.now) (all_held a.order a.n f a.section.now vs e).same
 
-pub fill_windows-i-requires : goal.fill_windows-i-requires
-fill_windows-i-requires c = (c.requires.0, c.requires.1, c.requires.2, fit (goal.at.fill_windows-i-requires c).Start)
+pub fill_windows-done-requires : goal.fill_windows-done-requires
+fill_windows-done-requires c = (c.requires.0, c.requires.1, c.requires.2, fit (goal.at.fill_windows-done-requires c).Start)
 
-pub skip_of-skip-requires : goal.skip_of-skip-requires
-skip_of-skip-requires c = (the_rules (goal.at.skip_of-skip-requires c).Start).narrow
-
-pub value_from-v-requires : goal.value_from-v-requires
-value_from-v-requires c = (sum c).inside
+pub value_from-requires : goal.value_from-requires
+value_from-requires c = (sum c).inside
 
 pub bounds-values-i : goal.bounds-values-i
 bounds-values-i c = room (goal.at.bounds-values-i c).In-loop-i

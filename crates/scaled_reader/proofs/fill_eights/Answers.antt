@@ -1,5 +1,5 @@
 -- `scaled_reader::fill_eights` meets its contract. The loop's invariant holds since the two windows of a turn hold the next eight numbers, and
-use Rattle.format.specs.Kit.{◌≡◌, refl, ℕ, ◌+◌, ◌-◌, ◌*◌, ◌/◌, ◌%◌, ◌≤◌, zero-mul, add-mul, arith, bit_and, and_mask, length}
+use Rattle.format.specs.Kit.{◌≡◌, refl, ℕ, ◌+◌, ◌*◌, ◌/◌, ◌%◌, ◌≤◌, zero-mul, add-mul, arith, bit_and, and_mask, length}
 use Rattle.format.specs.Codec.{Fields}
 use Rattle.answers.specs.Replies.{fields_of}
 use Rattle.packings.specs.declared.Order as Od

@@ -1,14 +1,14 @@
-use Rattle.format.specs.Kit.{◌≡◌, ◌+◌, ◌-◌, ◌*◌, ◌≤◌, ◌<◌, drop}
+use Rattle.format.specs.Kit.{◌-◌, ◌≤◌, drop}
 use Rattle.format.specs.Stores.{Fill}
 use Rattle.answers.specs.Replies.{fields_of}
 use Rattle.scaled_values.specs.Held.{numbers_in, values_from}
 use Rattle.scaled_reader.proofs.fill_fours.Given as goal
 
 -- `scaled_reader::fill_fours` meets its contract. The loop's invariant holds since the four numbers of a window at number i's place are the
--- next ones, and the place then moves by four numbers' bits. Assumes nothing.
+-- next ones. Assumes nothing.
 abbrev pub invariant-loop-i : goal.invariant-loop-i
 invariant-loop-i l =
-    (l.i ≤ l.n) × (l.at * 8 + l.skip ≡ l.i * l.fields.width) × (l.skip < 8)
+    (l.i ≤ l.n)
     × Fill l.initial.values 0 (values_from (fields_of l.fields) (numbers_in l.order l.fields.width l.n l.section)) l.values l.i
     (values_from (fields_of l.fields) (drop l.i (numbers_in l.order l.fields.width l.n l.section)))
 

@@ -33,7 +33,7 @@ pub returns-then-fields-gt14 : goal.returns-then-fields-gt14
 returns-then-fields-gt14 c = c.fill_ones.ensures
 
 pub fill_fours-requires : goal.fill_fours-requires
-fill_fours-requires c = let p = c.requires in (p.1, p.2, p.3)
+fill_fours-requires c = let p = c.requires in (p.1, p.2, p.3, p.0)
 
 pub shape_of-values-in-High : goal.shape_of-values-in-High
 shape_of-values-in-High c = c.fill_high.ensures.1.kept

@@ -1,11 +1,7 @@
-use Rattle.format.specs.Kit.{◌-◌, ◌≤◌}
 use Rattle.answers.specs.Replies.{order_of}
 use Rattle.section_check.proofs.Turns.{Kept}
 use Rattle.section_check.proofs.repeated.Given as goal
 
 -- `section_check::repeated` meets its contract. Assumes nothing.
 abbrev pub invariant-loop-i : goal.invariant-loop-i
-invariant-loop-i l = (Kept (order_of l.order) l.s l.from l.n l.o l.at l.i) × (l.i ≤ l.n)
-
-abbrev pub decreases-loop-i : goal.decreases-loop-i
-decreases-loop-i l = l.n - l.i
+invariant-loop-i l = Kept (order_of l.order) l.s l.from l.n l.o l.at l.i

@@ -1,10 +1,8 @@
-use Rattle.format.specs.Kit.{◌-◌, length}
-use Rattle.section_writer.proofs.Loops.{Summed}
+use Rattle.format.specs.Kit.{◌≡◌, ◌+◌}
+use Rattle.format.specs.Ids.{runs}
+use Rattle.format.specs.Runs.{total_bytes}
 use Rattle.section_writer.proofs.blocks_len.Given as goal
 
 -- `section_writer::blocks_len` meets its contract. Assumes nothing.
-abbrev pub invariant-loop-i : goal.invariant-loop-i
-invariant-loop-i l = Summed l.ids l.p l.i l.sum
-
-abbrev pub decreases-loop-i : goal.decreases-loop-i
-decreases-loop-i l = length l.ids - l.i
+abbrev pub invariant-loop-run : goal.invariant-loop-run
+invariant-loop-run l = l.sum + total_bytes l.p (runs l.run-iterator.rest.now) ≡ total_bytes l.p (runs l.ids)

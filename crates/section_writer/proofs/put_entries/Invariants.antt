@@ -8,6 +8,3 @@ use Rattle.section_writer.proofs.put_entries.Given as goal
 abbrev pub invariant-loop-t : goal.invariant-loop-t
 invariant-loop-t l =
     (l.t ≤ l.n) × Fill l.initial.out l.at (bytes_of entry_bytes (replicate l.n (l.o, l.s))) l.out (l.at + 8 * l.t) (bytes_of entry_bytes (replicate (l.n - l.t) (l.o, l.s)))
-
-abbrev pub decreases-loop-t : goal.decreases-loop-t
-decreases-loop-t l = l.n - l.t

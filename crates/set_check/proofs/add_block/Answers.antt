@@ -43,7 +43,7 @@ returns c =
     omega (arith, c.if-home-number.false, c.if-number-home.false, c.number_of.ensures.0, c.long-home.ensures) in
     added_same a.s.now u a.block c.requires.0 c.requires.1 a.id a.t _ c.requires.2 home _ _
     (e.below_is ∙ ap (λ (r : ℕ). count_below r (places_of a.s.now a.block)) place)
-    (e.there_is ∙ ap {B = Bool} (λ (r : ℕ). listed r (places_of a.s.now a.block)) place) refl refl c.either.ensures
+    (e.there_is ∙ ap {B = Bool} (λ (r : ℕ). listed r (places_of a.s.now a.block)) place) refl refl refl
 
 pub overflow_add-count : goal.overflow_add-count
 overflow_add-count c = omega (arith, c.requires.1.count_le, c.requires.3)

@@ -1,4 +1,4 @@
-use Rattle.format.specs.Kit.{◌+◌, ◌-◌, ◌||◌, ◌≡◌, ◌≤◌, drop}
+use Rattle.format.specs.Kit.{◌+◌, ◌||◌, ◌≡◌, ◌≤◌, drop}
 use Rattle.format.specs.Ids.{count_below}
 use Rattle.format.specs.IdsRead.{shorts}
 use Rattle.format.specs.Walk.{listed}
@@ -11,6 +11,3 @@ invariant-loop-i l =
     (l.below + count_below l.r (rest_of l.s l.at l.c l.i) ≡ count_below l.r (shorts l.c (drop l.at l.s)))
     × ((l.there || listed l.r (rest_of l.s l.at l.c l.i)) ≡ listed l.r (shorts l.c (drop l.at l.s)))
     × (l.below ≤ l.i) × (l.i ≤ l.c)
-
-abbrev pub decreases-loop-i : goal.decreases-loop-i
-decreases-loop-i l = l.c - l.i

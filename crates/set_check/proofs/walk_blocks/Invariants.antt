@@ -1,4 +1,4 @@
-use Rattle.format.specs.Kit.{◌≡◌, ◌-◌, ◌*◌, ◌≤◌}
+use Rattle.format.specs.Kit.{◌≡◌, ◌*◌, ◌≤◌}
 use Rattle.set_check.specs.Tally.{nothing, walked_from}
 use Rattle.set_check.proofs.walk_blocks.Given as goal
 

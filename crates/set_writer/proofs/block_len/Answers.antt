@@ -22,10 +22,11 @@ returns c =
         l1.0,
         l2.0,
         l3.0,
+        ap (λ (x : ℕ). length (number x)) c.number.ensures,
         long,
       ),
       omega (arith, d.1, l1.2, l2.2, l3.2),
     )
 
 pub data_bytes-d-requires : goal.data_bytes-d-requires
-data_bytes-d-requires c = (c.head_of-h.ensures.kind_le, c.head_of-h.ensures.long_le)
+data_bytes-d-requires c = c.head_of-h.ensures.long_le

@@ -1,13 +1,12 @@
 -- `set_writer::head_of` meets its contract. Assumes nothing.
 use Rattle.format.specs.Kit.{ap, ◌∙◌, arith}
 use Rattle.format.specs.SetBytes.{set_kind}
-use Rattle.set_format.proofs.Data.{kind_le}
 use Rattle.set_writer.proofs.Blocks.{few, some_id, head_is_is}
 use Rattle.set_writer.proofs.head_of.Goals as goal
 
 pub list_len-requires : goal.list_len-requires
 list_len-requires c =
-    (omega (arith, c.kind_of-kind.ensures, kind_le c.long.result), few c.args.part.now c.requires)
+    few c.args.part.now c.requires
 
 pub returns : goal.returns
 returns c =

@@ -1,5 +1,5 @@
 -- `set_writer::put_missing` meets its contract. The loop's invariant: the missing places from x on, past the listed ones before index j, are what
-use Rattle.format.specs.Kit.{◌≡◌, refl, sym, ap, ◌∙◌, subst, List, ℕ, suc, ◌+◌, ◌-◌, ◌++◌, ◌*◌, ◌≤◌, add-one, arith, length, sets}
+use Rattle.format.specs.Kit.{◌≡◌, refl, sym, ap, ◌∙◌, subst, List, ℕ, suc, ◌+◌, ◌-◌, ◌++◌, ◌*◌, ◌<◌, ◌≤◌, add-one, arith, length, sets}
 use Rattle.format.specs.Pairs.{Asc}
 use Rattle.format.specs.SetBytes.{missing}
 use Rattle.laws.proofs.Stores.{begun, part_more, room}
@@ -21,19 +21,19 @@ record Next (xs : List ℕ) (x i j y : ℕ) (out : List ℕ) : Type 0 where
   fits : i + 2 * (y - x) ≤ length out
 
 next : (c : After-place_of-y)
-    → (Next c.args.part.now c.loop-j.x c.loop-j.i c.loop-j.j c.place_of-y.result c.loop-j.out)
+    → (Next c.args.part.now c.loop-id.x c.loop-id.i c.loop-id.id-index c.place_of-y.result c.loop-id.out)
 next c =
-    let l = c.loop-j in
+    let l = c.loop-id in
     let xs = c.args.part.now in
     let y = c.place_of-y in
-    let in-part = c.loop-j-test.true in
-    let t = asc_next xs l.x l.j in-part l.invariant.2 in
+    let in-part : l.id-index < length xs = omega arith in
+    let t = asc_next xs l.x l.id-index in-part l.invariant.2 in
     let lo : l.x ≤ y.result = omega (arith, t.0, y.ensures.0) in
-    let m = left_more xs l.x l.j y.result in-part y.ensures.0 lo y.ensures.1 in
+    let m = left_more xs l.x l.id-index y.result in-part y.ensures.0 lo y.ensures.1 in
     record {
       low_is = lo;
       more = m;
-      after = subst (λ (n : ℕ). Asc (suc n) (places_from xs (l.j + 1))) (sym y.ensures.0) t.1;
+      after = subst (λ (n : ℕ). Asc (suc n) (places_from xs (l.id-index + 1))) (sym y.ensures.0) t.1;
       fits =
           let r = room _ _ _ _ _ _ l.invariant.1 (span (y.result - l.x) l.x) _ m (whole_fits (goal.at.After-place_of-y c).Start) in
           omega (arith, r, span_long (y.result - l.x) l.x);
@@ -43,22 +43,22 @@ pub put_span-requires : goal.put_span-requires
 put_span-requires c =
     ((next (goal.at.put_span-requires c).After-place_of-y).fits, omega (arith, (next (goal.at.put_span-requires c).After-place_of-y).low_is, c.place_of-y.ensures.1))
 
-pub loop-j-preserved : goal.loop-j-preserved
-loop-j-preserved c =
-    let l = c.loop-j in
+pub loop-id-preserved : goal.loop-id-preserved
+loop-id-preserved c =
+    let l = c.loop-id in
     let y : ℕ = c.place_of-y.result in (
       omega arith,
-      part_more _ _ _ _ _ _ l.invariant.1 _ _ (span (y - l.x) l.x) _ (next (goal.at.loop-j-preserved c).After-place_of-y).more c.put_span.ensures
+      part_more _ _ _ _ _ _ l.invariant.1 _ _ (span (y - l.x) l.x) _ (next (goal.at.loop-id-preserved c).After-place_of-y).more c.put_span.ensures
           (omega (arith, span_long (y - l.x) l.x)),
-      subst (λ (n : ℕ). Asc n (places_from c.args.part.now (l.j + 1))) (sym (add-one y)) (next (goal.at.loop-j-preserved c).After-place_of-y).after,
+      subst (λ (n : ℕ). Asc n (places_from c.args.part.now (l.id-index + 1))) (sym (add-one y)) (next (goal.at.loop-id-preserved c).After-place_of-y).after,
       omega (arith, c.place_of-y.ensures.1),
     )
 
 pub put_span-requires-2 : goal.put_span-requires-2
 put_span-requires-2 c =
-    let l = c.loop-j in
+    let l = c.loop-id in
     let xs = c.args.part.now in
-    let e = left_last xs l.x l.j (omega arith) in (
+    let e = left_last xs l.x l.id-index (omega arith) in (
       omega (
         arith,
         c.requires.1,
@@ -73,12 +73,12 @@ put_span-requires-2 c =
 
 pub returns : goal.returns
 returns c =
-    let l = c.loop-j in
+    let l = c.loop-id in
     let xs = c.args.part.now in
-    c.put_span-2.ensures ∙ ap (sets l.out l.i) (sym (left_last xs l.x l.j (omega arith))) ∙ l.invariant.1.same
+    c.put_span-2.ensures ∙ ap (sets l.out l.i) (sym (left_last xs l.x l.id-index (omega arith))) ∙ l.invariant.1.same
 
-pub loop-j-init : goal.loop-j-init
-loop-j-init c = (omega arith, begun _ _ _ _ refl, c.requires.0.ascending, omega arith)
+pub loop-id-init : goal.loop-id-init
+loop-id-init c = (omega arith, begun _ _ _ _ refl, c.requires.0.ascending, omega arith)
 
 pub overflow_sub-n : goal.overflow_sub-n
 overflow_sub-n c = (next c).low_is
@@ -87,10 +87,10 @@ pub overflow_mul-i : goal.overflow_mul-i
 overflow_mul-i c = omega (arith, c.place_of-y.ensures.1)
 
 pub overflow_add-i : goal.overflow_add-i
-overflow_add-i c = omega (arith, (next (goal.at.overflow_add-i c).After-place_of-y).fits, c.loop-j.invariant.1.kept)
+overflow_add-i c = omega (arith, (next (goal.at.overflow_add-i c).After-place_of-y).fits, c.loop-id.invariant.1.kept)
 
 pub overflow_add-x : goal.overflow_add-x
 overflow_add-x c = omega (arith, c.place_of-y.ensures.1)
 
 pub overflow_sub-n-2 : goal.overflow_sub-n-2
-overflow_sub-n-2 c = omega (arith, c.loop-j.invariant.3)
+overflow_sub-n-2 c = omega (arith, c.loop-id.invariant.3)

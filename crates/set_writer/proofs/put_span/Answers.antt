@@ -17,7 +17,7 @@ loop-i-init c =
 pub loop-i-preserved : goal.loop-i-preserved
 loop-i-preserved c =
     let a = c.args in
-    let y = c.long-y.ensures in
+    let y = c.long.ensures in
     let o = c.put_short.ensures in
     let i : ℕ = c.loop-i.i in (
       omega arith,

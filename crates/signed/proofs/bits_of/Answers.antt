@@ -1,12 +1,9 @@
 -- `signed::bits_of` meets its contract. Assumes nothing.
-use Rattle.format.specs.Kit.{ℕ, ap, ◌∙◌}
-use Rattle.format.specs.Bytes.{twos}
-use Rattle.signed.specs.Sign.{biased, unbiased}
-use Rattle.signed.proofs.Signs.{read_back, unbiased_biased}
+use Rattle.format.specs.Kit.{ap, ◌∙◌}
+use mir.Syntax.{w64}
+use mir.Val.{of_z}
+use Rattle.signed.proofs.Signs.{read_back, bits_twos}
 use Rattle.signed.proofs.bits_of.Goals as goal
 
 pub returns : goal.returns
-returns c =
-    let v = c.args.v in
-    let f = c.ranges.v.sfits in
-    c.turned.ensures.1 ∙ ap (λ (x : ℕ). twos (unbiased x)) (c.biased.ensures ∙ ap biased (read_back v f)) ∙ ap twos (unbiased_biased v f)
+returns c = let v = c.args.v in c.cast_unsigned.ensures ∙ ap (of_z w64) (read_back v c.ranges.v.sfits) ∙ bits_twos v

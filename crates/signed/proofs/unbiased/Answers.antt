@@ -1,9 +1,14 @@
 -- `signed::unbiased` meets its contract. Assumes nothing.
-use Rattle.signed.proofs.Machine.{high_bits, low_bits}
+use Rattle.format.specs.Kit.{sym, ap, ◌∙◌, ℤ}
+use mir.Syntax.{w64}
+use mir.Val.{to_z, of_z}
+use Rattle.signed.specs.Sign.{unbiased}
+use Rattle.signed.proofs.Signs.{read_back, bits_twos, unbiased_size}
 use Rattle.signed.proofs.unbiased.Goals as goal
 
-pub returns-then-x-lt-HALF : goal.returns-then-x-lt-HALF
-returns-then-x-lt-HALF c = low_bits c.args.x c.if-x-lt-HALF.true
-
-pub returns-else-x-lt-HALF : goal.returns-else-x-lt-HALF
-returns-else-x-lt-HALF c = high_bits c.args.x c.ranges.x.fits c.if-x-lt-HALF.false
+pub returns : goal.returns
+returns c =
+    let x = c.args.x in
+    let small = unbiased_size x c.ranges.x.fits in
+    let e = c.cast_signed.ensures ∙ ap (to_z w64) (c.turned.ensures.1 ∙ sym (bits_twos (unbiased x))) ∙ read_back (unbiased x) small in
+    ap (λ (z : ℤ). to_z w64 (of_z w64 z)) e ∙ read_back (unbiased x) small

@@ -1,5 +1,5 @@
 -- `table_check::codes_ok` meets its contract, test by test. Assumes nothing.
-use Rattle.format.specs.Kit.{◌≡◌, sym, ◌∙◌, subst, true, List, ℕ, ◌*◌, ◌≤◌, mul-le-mul, arith, replicate, and-false}
+use Rattle.format.specs.Kit.{◌≡◌, sym, ◌∙◌, subst, true, List, ℕ, replicate, and-false}
 use Rattle.format.specs.Bits.{unpacked}
 use Rattle.laws.proofs.Cases.{true_or}
 use Rattle.tables.specs.Marks.{marked, AllMarked}
@@ -8,10 +8,6 @@ use Rattle.table_check.specs.ValuesOk.{used_all, codes_ok}
 use Rattle.table_check.proofs.Codes.{used_each, each_used}
 use Rattle.table_check.proofs.codes_ok.Goals as goal
 use Rattle.table_check.proofs.codes_ok.Goals.{Else-not-spare_ok, Start}
-
--- n times w fits
-few : (s : Start) → s.args.n * s.args.w ≤ 2147352576 * 8
-few s = mul-le-mul s.requires.1 s.requires.0
 
 pub returns-then-not-spare_ok : goal.returns-then-not-spare_ok
 unfolding codes_ok
@@ -46,21 +42,3 @@ returns c =
     (subst (λ (l : List ℕ). AllMarked l a.t) (sym marks) (one_marks 256 a.t c.requires.3 cs (used_each a.t cs u)))))
     (λ u. r ∙ sym u)) in
     used ∙ sym (rw (sym c.spare_ok.ensures ∙ spare (goal.at.returns c).Else-not-spare_ok, sym m.ensures.0 ∙ e))
-
-pub overflow_mul-spare : goal.overflow_mul-spare
-overflow_mul-spare c = omega (arith, few (goal.at.overflow_mul-spare c).Start, c.requires.2)
-
-pub overflow_mul-spare-2 : goal.overflow_mul-spare-2
-overflow_mul-spare-2 c = omega (arith, few (goal.at.overflow_mul-spare-2 c).Start)
-
-pub overflow_sub-spare : goal.overflow_sub-spare
-overflow_sub-spare c = omega (arith, c.requires.2)
-
-pub spare_ok-requires : goal.spare_ok-requires
-spare_ok-requires c = omega (arith, c.requires.2)
-
-pub mark_codes-requires : goal.mark_codes-requires
-mark_codes-requires c = (omega (arith, c.requires.0), omega (arith, c.requires.2), omega (arith, c.requires.3))
-
-pub all_marked-requires : goal.all_marked-requires
-all_marked-requires c = omega (arith, c.requires.3)

@@ -1,11 +1,11 @@
 -- `table_check::mark_codes` meets its contract. The loop's invariant: the codes from i on are still to be looked at, and code i stands at the
-use Rattle.format.specs.Kit.{◌≡◌, sym, ◌∙◌, ℕ, ◌+◌, ◌-◌, ◌*◌, ◌%◌, ◌<◌, ◌≤◌, arith, bit_and, and_mask, length, get_or, rules}
+use Rattle.format.specs.Kit.{◌≡◌, sym, ◌∙◌, ℕ, ◌+◌, ◌%◌, ◌<◌, arith, bit_and, and_mask, length, get_or}
 use Rattle.format.specs.Bits.{unpacked}
 use Rattle.laws.proofs.Cases.{false_true}
-use Rattle.laws.proofs.Bits.{length_unpacked, fetched_is, within}
+use Rattle.laws.proofs.Bits.{length_unpacked, fetched_is}
 use Rattle.packing.proofs.Join.{place_next}
 use Rattle.table_values.proofs.Facts.{high_width, high_fetch}
-use Rattle.table_check.proofs.Codes.{counting_none, counting_stop, counting_more, counting_end}
+use Rattle.table_check.proofs.Codes.{counting_stop, counting_more, counting_end}
 use Rattle.table_check.proofs.mark_codes.Goals as goal
 use Rattle.table_check.proofs.mark_codes.Goals.{After-next_of-code, In-loop-i}
 
@@ -28,12 +28,6 @@ returns-then-code-t c = (
   λ e. false_true e,
 )
 
-pub overflow_add-at : goal.overflow_add-at
-overflow_add-at c =
-    let e = within c.loop-i.i c.args.w c.args.n c.loop-i-test.true in
-    let h : c.loop-i.at * 8 + c.loop-i.skip + c.args.w ≤ 8 * length c.args.codes.now = omega (arith, c.loop-i.invariant.1, c.requires.1) in
-    search rules
-
 pub loop-i-preserved : goal.loop-i-preserved
 loop-i-preserved c =
     let w : ℕ = c.args.w in
@@ -49,20 +43,5 @@ returns c =
     let e = counting_end c.loop-i.invariant.0 (omega (arith, length_unpacked a.w a.n a.codes.now, c.loop-i-test.false)) in
     (e.0, λ t. e.1)
 
-pub loop-i-init : goal.loop-i-init
-loop-i-init c = (counting_none _ _ _, omega arith, omega arith)
-
 pub next_of-code-requires : goal.next_of-code-requires
 next_of-code-requires c = (high_width _ c.requires.0, c.loop-i-test.true, c.requires.1, c.loop-i.invariant.1, c.loop-i.invariant.2)
-
-pub shape_of-marks-then-code-t : goal.shape_of-marks-then-code-t
-shape_of-marks-then-code-t c = c.loop-i.invariant.0.size
-
-pub bounds-marks-k : goal.bounds-marks-k
-bounds-marks-k c = omega (arith, c.if-code-t.false, c.loop-i.invariant.0.size, c.requires.2)
-
-pub overflow_add-next : goal.overflow_add-next
-overflow_add-next c = omega (arith, c.loop-i.invariant.2, c.requires.0)
-
-pub shape_of-marks : goal.shape_of-marks
-shape_of-marks c = c.loop-i.invariant.0.size

@@ -1,4 +1,4 @@
-use Rattle.format.specs.Kit.{◌≡◌, ◌+◌, ◌-◌, ◌*◌, ◌<◌}
+use Rattle.format.specs.Kit.{◌≡◌, ◌+◌, ◌*◌, ◌<◌}
 use Rattle.format.specs.Bits.{unpacked}
 use Rattle.table_check.proofs.Codes.{Counting}
 use Rattle.table_check.proofs.mark_codes.Given as goal
@@ -7,6 +7,3 @@ use Rattle.table_check.proofs.mark_codes.Given as goal
 -- place that is kept. Assumes nothing.
 abbrev pub invariant-loop-i : goal.invariant-loop-i
 invariant-loop-i l = Counting l.t (unpacked l.w l.n l.codes) l.initial.marks l.marks l.i × (l.at * 8 + l.skip ≡ l.i * l.w) × (l.skip < 8)
-
-abbrev pub decreases-loop-i : goal.decreases-loop-i
-decreases-loop-i l = l.n - l.i

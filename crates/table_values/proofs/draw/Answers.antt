@@ -41,8 +41,8 @@ holds s =
     omega (arith, r.bytes, l, length-drop (8 * a.fields.divisor) a.section.now, e)
 
 -- ordinal o is one of the n
-below : (c : In-loop-i) → c.loop-i.o < c.args.n
-below c = let l = c.loop-i in omega (arith, c.loop-i-test.true, l.invariant.2, c.requires.2)
+below : (c : In-loop-i) → (c.args.x + (c.loop-i.i - c.args.from)) < c.args.n
+below c = omega (arith, c.loop-i-test.true, c.loop-i.invariant.0, c.requires.2)
 
 pub byte_of-at-requires : goal.byte_of-at-requires
 byte_of-at-requires c =
@@ -51,61 +51,62 @@ byte_of-at-requires c =
 
 -- what is drawn is step 7
 read : (c : After-value_of) → let a = c.args in
-    fetched_of c.value_of.result ≡ (codec table).value a.n (fields_of a.fields) a.section.now c.loop-i.o
+    fetched_of c.value_of.result ≡ (codec table).value a.n (fields_of a.fields) a.section.now (c.args.x + (c.loop-i.i - c.args.from))
 unfolding table_value
 read c =
     let a = c.args in
     let s : List ℕ = a.section.now in
     let t : ℕ = a.fields.divisor in
     c.value_of.ensures
-    ∙ ap (code_value t s) (c.next_of-code.ensures ∙ ap (λ (y : List ℕ). high_first.fetch y a.fields.width c.loop-i.o) (rest_is s (8 * t))
-    ∙ high_fetch (drop (8 * t) s) a.fields.width c.loop-i.o)
-    ∙ sym (value_is a.n (fields_of a.fields) s c.loop-i.o)
+    ∙ ap (code_value t s) (c.next_of-code.ensures ∙ ap (λ (y : List ℕ). high_first.fetch y a.fields.width (c.args.x + (c.loop-i.i - c.args.from))) (rest_is s (8 * t))
+    ∙ high_fetch (drop (8 * t) s) a.fields.width (c.args.x + (c.loop-i.i - c.args.from)))
+    ∙ sym (value_is a.n (fields_of a.fields) s (c.args.x + (c.loop-i.i - c.args.from)))
 
 pub returns-in_default : goal.returns-in_default
 returns-in_default c =
     let l = c.loop-i in
     let e = drawn_none _ _ _ (sym (read (goal.at.returns-in_default c).After-value_of) ∙ ap fetched_of c.in_default.is) in
-    (reached _ _ _ _ _ _ l.invariant.3 e, filled _ _ _ _ _ _ l.invariant.3 e)
+    (reached _ _ _ _ _ _ l.invariant.2 e, filled _ _ _ _ _ _ l.invariant.2 e)
 
 pub loop-i-preserved : goal.loop-i-preserved
 loop-i-preserved c =
     let l = c.loop-i in
     let a = c.args in
     let w : ℕ = a.fields.width in
-    let z = c.in-Value.value in
+    let ord : ℕ = a.x + (l.i - a.from) in
+    let z = c.in-Some.value in
     let f : ℕ → Option ℤ = (codec table).value a.n (fields_of a.fields) a.section.now in
-    let o = sym (read (goal.at.loop-i-preserved c).After-value_of) ∙ ap fetched_of c.in-Value.is in
-    let m = fits_size z ((lawful table).fit a.n (fields_of a.fields) a.section.now l.o z o) in
+    let o = sym (read (goal.at.loop-i-preserved c).After-value_of) ∙ ap fetched_of c.in-Some.is in
+    let m = fits_size z ((lawful table).fit a.n (fields_of a.fields) a.section.now ord z o) in
     let k : a.end - l.i ≡ suc (a.end - (l.i + 1)) = omega (arith, c.loop-i-test.true) in
-    let one : suc l.o ≡ l.o + 1 = omega arith in
-    let more = ap (λ (j : ℕ). drawn f j l.o) k ∙ drawn_some f (a.end - (l.i + 1)) l.o z o
+    let one : suc ord ≡ a.x + (l.i + 1 - a.from) = omega (arith, l.invariant.0) in
+    let next : ord + 1 ≡ a.x + (l.i + 1 - a.from) = omega (arith, l.invariant.0) in
+    let more = ap (λ (j : ℕ). drawn f j ord) k ∙ drawn_some f (a.end - (l.i + 1)) ord z o
     ∙ ap (λ (y : ℕ). z ∷ drawn f (a.end - (l.i + 1)) y) one in
     let g : bit_and (l.skip + w) 7 ≡ (l.skip + w) % 8 = and_mask (l.skip + w) 3 in (
       omega arith,
       omega (arith, c.loop-i-test.true),
-      omega (arith, l.invariant.2, c.loop-i-test.true),
-      subst (λ (y : List ℤ). Fill a.values.now a.from (drawn f (a.end - a.from) a.x) y (l.i + 1) (drawn f (a.end - (l.i + 1)) (l.o + 1)))
+      subst (λ (y : List ℤ). Fill a.values.now a.from (drawn f (a.end - a.from) a.x) y (l.i + 1) (drawn f (a.end - (l.i + 1)) (a.x + (l.i + 1 - a.from))))
           (sym (ap (set l.values l.i) (to_z-of_z {w = w64} {z = z} (record { sfits = m }))))
-          (one_more _ _ _ _ _ _ l.invariant.3 z _ more),
-      rw g (place_next l.o w l.at l.skip l.invariant.4),
+          (one_more _ _ _ _ _ _ l.invariant.2 z _ more),
+      rw g (place_next ord w l.at l.skip l.invariant.3 ∙ ap (λ (j : ℕ). j * w) next),
       omega (arith, g),
     )
 
 pub overflow_add-at : goal.overflow_add-at
 overflow_add-at c =
     let l = c.loop-i in
-    let e = within l.o c.args.fields.width c.args.n (below (goal.at.overflow_add-at c).In-loop-i) in
+    let e = within (c.args.x + (l.i - c.args.from)) c.args.fields.width c.args.n (below (goal.at.overflow_add-at c).In-loop-i) in
     let f = holds (goal.at.overflow_add-at c).Start in
-    let h : l.at * 8 + l.skip + c.args.fields.width ≤ 8 * length (codes (goal.at.overflow_add-at c).Start) = omega (arith, l.invariant.4) in
+    let h : l.at * 8 + l.skip + c.args.fields.width ≤ 8 * length (codes (goal.at.overflow_add-at c).Start) = omega (arith, l.invariant.3) in
     search rules
 
 pub returns : goal.returns
 returns c =
     let l = c.loop-i in
     let z : c.args.end - l.i ≡ 0 = omega (arith, c.loop-i-test.false, l.invariant.1) in
-    let e = drawn_zero _ _ l.o z in
-    (reached _ _ _ _ _ _ l.invariant.3 e, filled _ _ _ _ _ _ l.invariant.3 e)
+    let e = drawn_zero _ _ (c.args.x + (l.i - c.args.from)) z in
+    (omega (arith, c.loop-i-test.false, l.invariant.1, reached _ _ _ _ _ _ l.invariant.2 e), filled _ _ _ _ _ _ l.invariant.2 e)
 
 pub overflow_mul-start : goal.overflow_mul-start
 overflow_mul-start c = omega (arith, table_within c.args.section.now (the_rules (goal.at.overflow_mul-start c).Start))
@@ -125,36 +126,18 @@ next_of-code-requires c = let v = c.loop-i.invariant in (
   below c,
   holds
       (goal.at.next_of-code-requires c).Start,
+  v.3,
   v.4,
-  v.5,
 )
 
 pub value_of-requires : goal.value_of-requires
 value_of-requires c = table_within c.args.section.now
     (the_rules (goal.at.value_of-requires c).Start)
 
-pub shape_of-values-in_default : goal.shape_of-values-in_default
-shape_of-values-in_default c = c.loop-i.invariant.3.kept
-
-pub bounds-values-i : goal.bounds-values-i
-bounds-values-i c = omega (arith, c.loop-i.invariant.3.kept, c.loop-i-test.true, c.requires.4)
-
-pub overflow_add-o : goal.overflow_add-o
-overflow_add-o c = omega (arith, below (goal.at.overflow_add-o c).In-loop-i, c.requires.0)
-
-pub overflow_add-i : goal.overflow_add-i
-overflow_add-i c = omega (arith, c.loop-i-test.true)
-
 pub overflow_add-next : goal.overflow_add-next
 overflow_add-next c = omega (
   arith,
-  c.loop-i.invariant.5,
+  c.loop-i.invariant.4,
   thin
       (goal.at.overflow_add-next c).Start,
 )
-
-pub loop-i-smaller : goal.loop-i-smaller
-loop-i-smaller c = omega (arith, c.loop-i-test.true)
-
-pub shape_of-values : goal.shape_of-values
-shape_of-values c = c.loop-i.invariant.3.kept

@@ -9,10 +9,7 @@ use Rattle.table_values.proofs.draw.Given as goal
 -- is kept. Assumes nothing.
 abbrev pub invariant-loop-i : goal.invariant-loop-i
 invariant-loop-i l =
-    (l.from ≤ l.i) × (l.i ≤ l.end) × (l.o + (l.end - l.i) ≡ l.x + (l.end - l.from))
+    (l.from ≤ l.i) × (l.i ≤ l.end)
     × Fill l.initial.values l.from (drawn ((codec table).value l.n (fields_of l.fields) l.section) (l.end - l.from) l.x) l.values l.i
-    (drawn ((codec table).value l.n (fields_of l.fields) l.section) (l.end - l.i) l.o)
-    × (l.at * 8 + l.skip ≡ l.o * l.fields.width) × (l.skip < 8)
-
-abbrev pub decreases-loop-i : goal.decreases-loop-i
-decreases-loop-i l = l.end - l.i
+    (drawn ((codec table).value l.n (fields_of l.fields) l.section) (l.end - l.i) (l.x + (l.i - l.from)))
+    × (l.at * 8 + l.skip ≡ (l.x + (l.i - l.from)) * l.fields.width) × (l.skip < 8)

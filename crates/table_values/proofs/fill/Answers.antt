@@ -10,7 +10,7 @@ use Rattle.format.specs.Table.{table_value}
 use Rattle.format.specs.Check.{all_values}
 use Rattle.answers.specs.Replies.{fields_of}
 use Rattle.laws.proofs.Bits.{within}
-use Rattle.laws.proofs.Stores.{begun, one_more, filled, sets_front}
+use Rattle.laws.proofs.Stores.{one_more, filled, sets_front}
 use Rattle.laws.proofs.RoundTrip.{all_length, all_at}
 use Rattle.laws.proofs.Table.{TableRules}
 use Rattle.packing.proofs.Join.{place_next}
@@ -41,12 +41,6 @@ held c =
     let e = ap (λ (k : ℕ). packed_bytes a.n k) r.width_is in
     let w = ap (λ (k : ℕ). a.n * k) c.size-w.ensures in
     omega (arith, r.bytes)
-
-kept : (c : At-loop-i) → length c.loop-i.values ≡ length c.args.values.now
-kept c = (c.loop-i.invariant.1 _ refl _ (there c)).kept
-
-room : (c : In-loop-i) → c.loop-i.i < length c.loop-i.values
-room c = omega (arith, kept (goal.at.In-loop-i c).At-loop-i, c.loop-i-test.true, c.requires.1)
 
 -- ---- a turn
 pub next_of-code-requires : goal.next_of-code-requires
@@ -113,9 +107,6 @@ returns c vs e =
 pub overflow_mul-start : goal.overflow_mul-start
 overflow_mul-start c = omega (arith, (the_rules (goal.at.overflow_mul-start c).Start).most)
 
-pub loop-i-init : goal.loop-i-init
-loop-i-init c = (omega arith, λ t e vs g. begun _ _ _ _ refl, omega arith, omega arith)
-
 pub slice_bounds-next_of-count : goal.slice_bounds-next_of-count
 slice_bounds-next_of-count c = omega (arith, table_within c.args.section.now (the_rules (goal.at.slice_bounds-next_of-count c).Start))
 
@@ -125,11 +116,5 @@ slice_bounds-next_of-start c = omega (arith, table_within c.args.section.now (th
 pub entry-v-requires : goal.entry-v-requires
 entry-v-requires c = omega (arith, c.size.ensures, inside (goal.at.entry-v-requires c).After-next_of-code, table_within c.args.section.now (the_rules (goal.at.entry-v-requires c).Start))
 
-pub bounds-values-i : goal.bounds-values-i
-bounds-values-i c = room (goal.at.bounds-values-i c).In-loop-i
-
 pub overflow_add-next : goal.overflow_add-next
 overflow_add-next c = omega (arith, c.loop-i.invariant.3, thin (goal.at.overflow_add-next c).At-loop-i)
-
-pub shape_of-values : goal.shape_of-values
-shape_of-values c = kept (goal.at.shape_of-values c).At-loop-i

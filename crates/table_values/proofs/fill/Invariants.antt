@@ -1,4 +1,4 @@
-use Rattle.format.specs.Kit.{◌≡◌, List, some, ℕ, ◌+◌, ◌-◌, ◌*◌, ◌<◌, ◌≤◌, ℤ, drop}
+use Rattle.format.specs.Kit.{◌≡◌, List, some, ℕ, ◌+◌, ◌*◌, ◌<◌, ◌≤◌, ℤ, drop}
 use Rattle.format.specs.Table.{table_value}
 use Rattle.format.specs.Check.{all_values}
 use Rattle.format.specs.Stores.{Fill}
@@ -11,6 +11,3 @@ invariant-loop-i l =
     (l.i ≤ l.n)
     × ((t : ℕ) → l.start ≡ 8 * t → (vs : List ℤ) → all_values l.n (table_value t l.w l.section) ≡ some vs → Fill l.initial.values 0 vs l.values l.i (drop l.i vs))
     × (l.at * 8 + l.skip ≡ l.i * l.w) × (l.skip < 8)
-
-abbrev pub decreases-loop-i : goal.decreases-loop-i
-decreases-loop-i l = l.n - l.i

@@ -1,5 +1,5 @@
 -- `table_values::saves` meets its contract. Assumes nothing.
-use Rattle.format.specs.Kit.{ap, ap₂, ◌∙◌, ltb, ℕ, arith}
+use Rattle.format.specs.Kit.{ap, ap₂, ◌∙◌, ltb, ℕ}
 use Rattle.format.specs.Bits.{packed_bytes}
 use Rattle.format.specs.Codec.{Fields}
 use Rattle.format.specs.Editions.{codec}
@@ -27,17 +27,5 @@ returns c =
     (c.packed_bytes-v.ensures.0 ∙ ap (λ (f : Fields). packed_bytes c.args.n f.width) c.plan-plain.ensures.0) in
     (ap₂ ltb own plain, c.plan-plain.ensures.1)
 
-pub fields_of-requires : goal.fields_of-requires
-fields_of-requires c = (omega (arith, c.long-t.ensures, c.requires.0), omega (arith, c.long-t.ensures, c.requires.1))
-
-pub bytes_of-requires : goal.bytes_of-requires
-bytes_of-requires c = (omega (arith, c.long-t.ensures, c.requires.0), omega (arith, c.long-t.ensures, c.requires.1), c.requires.2)
-
-pub share-own-requires : goal.share-own-requires
-share-own-requires c = omega (arith, c.bytes_of.ensures.1, c.requires.2)
-
 pub packed_bytes-v-requires : goal.packed_bytes-v-requires
 packed_bytes-v-requires c = (c.requires.2, (fields c).narrow)
-
-pub share-requires : goal.share-requires
-share-requires c = omega (arith, c.packed_bytes-v.ensures.1, c.requires.2)

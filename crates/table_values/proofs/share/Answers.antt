@@ -12,6 +12,3 @@ returns c =
     let s = c.number_len-s.ensures.0 in
     let w = c.number_len-w.ensures.0 in
     simp length-append (omega (arith, c.long.ensures, l, g, s, w))
-
-pub overflow_add-result : goal.overflow_add-result
-overflow_add-result c = omega (arith, c.long.ensures, c.requires)

@@ -1,5 +1,5 @@
 -- `table_values::value_of` meets its contract. Assumes nothing.
-use Rattle.format.specs.Kit.{◌≡◌, sym, ap, ◌∙◌, subst, some, ◌*◌, lt-ltb, le-ltb, arith, ℤ, rules}
+use Rattle.format.specs.Kit.{◌≡◌, sym, ap, ◌∙◌, subst, some, ◌*◌, lt-ltb, arith, ℤ, rules}
 use mir.Syntax.{w64}
 use mir.Val.{to_z, of_z}
 use mir.Facts.{to_z-of_z}
@@ -8,9 +8,6 @@ use Rattle.format.specs.Pairs.{Fits}
 use Rattle.laws.proofs.Fits.{size_fits}
 use Rattle.laws.proofs.Scaled.{signed_some}
 use Rattle.table_values.proofs.value_of.Goals as goal
-
-pub returns-then-code-t : goal.returns-then-code-t
-returns-then-code-t c = let a = c.args in sym (rw (le-ltb a.code a.t c.if-code-t.true))
 
 pub returns : goal.returns
 returns c =

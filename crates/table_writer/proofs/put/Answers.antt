@@ -1,5 +1,5 @@
 -- `table_writer::put` meets its contract: the codes go into the part that follows the table. Assumes nothing.
-use Rattle.format.specs.Kit.{ap, ◌∙◌, ◌-◌, ◌*◌, ◌≤◌, arith, length, length-drop}
+use Rattle.format.specs.Kit.{ap, ◌∙◌, ◌*◌, ◌≤◌, arith, length, length-drop}
 use Rattle.laws.proofs.Table.{length_section}
 use Rattle.table_writer.proofs.Written.{section_made}
 use Rattle.table_values.proofs.Facts.{rest_is}

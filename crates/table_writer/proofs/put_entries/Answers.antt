@@ -1,11 +1,10 @@
 -- `table_writer::put_entries` meets its contract. The loop's invariant: the entries from i on are still to be put. Assumes nothing.
-use Rattle.format.specs.Kit.{◌≡◌, refl, ap, ◌∙◌, ◌+◌, ◌-◌, ◌*◌, ◌^◌, ◌<◌, arith, ℤ, pos, mag, length, get_or, drop, sets, ℕ}
+use Rattle.format.specs.Kit.{◌≡◌, refl, ap, ◌∙◌, ◌+◌, ◌*◌, arith, ℤ, pos, length, get_or, drop, sets, ℕ, rules}
 use Rattle.format.specs.Bytes.{bytes_of, low, twos}
 use Rattle.format.specs.Table.{table_entry}
 use Rattle.laws.proofs.Stores.{begun, part_more, filled}
 use Rattle.laws.proofs.Digits.{length_digits}
-use Rattle.signed.specs.Sign.{biased, unbiased}
-use Rattle.signed.proofs.Signs.{read_back, unbiased_biased}
+use Rattle.signed.proofs.Signs.{read_back}
 use Rattle.table_writer.proofs.Written.{entries_more, entries_end}
 use Rattle.table_writer.proofs.put_entries.Goals as goal
 
@@ -19,9 +18,7 @@ unfolding table_entry
 loop-i-preserved c =
     let us = c.args.table.now in
     let v : ℤ = get_or us c.loop-i.i (pos 0) in
-    let f : mag v < 2 ^ 63 = c.biased-arg-1.given in
-    let x : c.turned-x.result ≡ twos v =
-    c.turned-x.ensures.1 ∙ ap (λ (z : ℤ). twos z) (ap unbiased (c.biased.ensures ∙ ap biased (read_back v f)) ∙ unbiased_biased v f) in
+    let x : c.bits_of.result ≡ twos v = c.bits_of.ensures ∙ ap twos (read_back v (search rules)) in
     let next : 8 * (c.loop-i.i + 1) ≡ 8 * c.loop-i.i + length (low 8 (twos v)) = omega (arith, length_digits 256 8 (twos v)) in
     part_more _ _ _ _ _ _ c.loop-i.invariant _ _ (low 8 (twos v)) (bytes_of table_entry (drop (c.loop-i.i + 1) us))
     (entries_more us c.loop-i.i c.loop-i-test.true)

@@ -1,5 +1,5 @@
 -- `tables::added` meets its contract: the value is there, or has no room, or is put in at its place. Assumes nothing.
-use Rattle.format.specs.Kit.{sym, arith, length-take-le}
+use Rattle.format.specs.Kit.{arith}
 use Rattle.signed.specs.Sign.{unbiased}
 use Rattle.tables.proofs.PutIn.{was_there, no_room, now_there}
 use Rattle.tables.proofs.added.Goals as goal
@@ -16,11 +16,6 @@ returns-then-n-table c =
     no_room a.table.now a.n c.place_of-k.result (unbiased a.b) c.requires.0 c.place_of-k.ensures.0 c.place_of-k.ensures.1
     (c.has.ensures.1 c.if-has.false) c.if-n-table.true
 
-pub put_in-requires : goal.put_in-requires
-put_in-requires c =
-    let n = length-take-le c.args.n c.args.table.now c.requires.0 in
-    (omega (arith, c.place_of-k.ensures.1, n), omega (arith, c.requires.0, c.if-n-table.false))
-
 pub returns : goal.returns
 returns c =
     let a = c.args in
@@ -28,9 +23,3 @@ returns c =
     c.put_in.new.table
     c.put_in.auto.table (c.has.ensures.1 c.if-has.false) (omega (arith, c.requires.0, c.if-n-table.false))
     c.put_in.ensures
-
-pub slice_bounds-place_of-end-2 : goal.slice_bounds-place_of-end-2
-slice_bounds-place_of-end-2 c = sym (length-take-le c.args.n c.args.table.now c.requires.0)
-
-pub slice_bounds-has-end-2 : goal.slice_bounds-has-end-2
-slice_bounds-has-end-2 c = sym (length-take-le c.args.n c.args.table.now c.requires.0)

@@ -2,7 +2,7 @@
 use Rattle.format.specs.Kit.{◌≡◌, sym, ap, ap₂, ◌∙◌, subst, ◌+◌, ◌-◌, ◌/◌, ◌^◌, ◌<◌, arith, ltb, ℤ, pos, mag, lt_z, get_or, rules}
 use Rattle.signed.specs.Sign.{biased, unbiased}
 use Rattle.signed.proofs.Signs.{read_back, biased_unbiased, unbiased_size}
-use Rattle.tables.proofs.Placed.{biased_lt, Split, split_all, split_turn, split_less, split_end}
+use Rattle.tables.proofs.Placed.{biased_lt, Split, split_turn, split_end}
 use Rattle.tables.proofs.place.Goals as goal
 use Rattle.tables.proofs.place.Goals.{After-biased}
 
@@ -17,12 +17,6 @@ tested c =
     biased_lt x (unbiased a.b) f (unbiased_size a.b small)
     ∙ ap₂ ltb (sym (c.biased.ensures ∙ ap biased (read_back x f))) (biased_unbiased a.b)
 
-pub loop-lo-smaller : goal.loop-lo-smaller
-loop-lo-smaller c =
-    rw (c.chosen-lo.ensures, c.chosen-hi.ensures)
-    (split_less c.loop-lo.lo c.loop-lo.hi (c.loop-lo.lo + (c.loop-lo.hi - c.loop-lo.lo) / 2) (omega arith) (omega (arith, c.loop-lo-test.true))
-    (ltb c.biased.result c.args.b))
-
 pub loop-lo-preserved : goal.loop-lo-preserved
 loop-lo-preserved c =
     rw (c.chosen-lo.ensures, c.chosen-hi.ensures)
@@ -34,18 +28,3 @@ returns c =
     let l = c.loop-lo in
     let meet : l.hi ≡ l.lo = omega (arith, c.loop-lo-test.false, l.invariant.order) in
     (sym (split_end _ _ l.lo (subst (Split _ _ l.lo) meet l.invariant)), omega (arith, l.invariant.inside, l.invariant.order))
-
-pub loop-lo-init : goal.loop-lo-init
-loop-lo-init c = split_all _ _
-
-pub overflow_sub-mid : goal.overflow_sub-mid
-overflow_sub-mid c = omega (arith, c.loop-lo.invariant.order)
-
-pub overflow_add-mid : goal.overflow_add-mid
-overflow_add-mid c = omega (arith, c.loop-lo.invariant.order, c.loop-lo.invariant.inside)
-
-pub bounds-table-mid : goal.bounds-table-mid
-bounds-table-mid c = omega (arith, c.loop-lo-test.true, c.loop-lo.invariant.inside)
-
-pub overflow_add-mid-in-loop-lo : goal.overflow_add-mid-in-loop-lo
-overflow_add-mid-in-loop-lo c = omega (arith, c.loop-lo.invariant.inside)

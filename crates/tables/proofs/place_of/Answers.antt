@@ -8,4 +8,4 @@ pub returns-then-has : goal.returns-then-has
 returns-then-has c =
     let us = c.args.table.now in
     let at = c.has.ensures.0 c.if-has.true in
-    (sym (ap (code_in us) (sym at.1) ∙ code_at us c.wide-guess.result c.requires.2 at.0), omega (arith, at.0))
+    (sym (ap (code_in us) (sym at.1) ∙ code_at us c.from-guess.result c.requires.2 at.0), omega (arith, at.0))

@@ -1,17 +1,18 @@
 -- `values::slot_of` meets its contract. Assumes nothing.
-use Rattle.format.specs.Kit.{◌≡◌, sym, ap, subst, true, ◌^◌, ◌<◌, length}
+use Rattle.format.specs.Kit.{◌≡◌, ⊎_elim, sym, ap, subst, true, ◌^◌, ◌<◌, length}
 use Rattle.format.specs.Editions.{Edition, plain, lucene, runs, codec}
 use Rattle.answers.specs.Replies.{fields_of}
 use Rattle.run_values.proofs.Reached.{Rules, rules_kept}
-use Rattle.scaled_values.specs.declared.slots.Slotted.{Slotted}
 use Rattle.scaled_values.specs.Slots.{whole_slot}
 use Rattle.values.specs.Edition.{edition_of, SlotOf}
 use Rattle.values.proofs.Slots.{Whole, plain_whole, lucene_whole, slot_whole, slot_in_runs, table_rules, slot_by_table}
 use Rattle.values.proofs.slot_of.Goals as goal
 use Rattle.values.proofs.slot_of.Goals.{In-Runs, Start}
+use Rattle.std.specs.declared.option.Option as Op
+use Rattle.scaled_values.specs.declared.slots.Slot.{Slot}
 
 -- one smallest value and width
-whole : (s : Start) (ed : Edition) (r : Slotted) → edition_of s.args.edition ≡ ed → Whole ed → let a = s.args in
+whole : (s : Start) (ed : Edition) (r : Op.Option Slot) → edition_of s.args.edition ≡ ed → Whole ed → let a = s.args in
     (r ≡ whole_slot a.fields.width a.fields.smallest a.i) × (a.fields.smallest < 2 ^ 64)
     → SlotOf (edition_of a.edition) a.n (fields_of a.fields) a.section.now a.i r
 whole s ed r e w z =
@@ -48,7 +49,7 @@ slot_at-requires-in-Table c = let a = c.args in
     (table_rules (edition_of a.edition) (ap edition_of c.in-Table.is) a.n (fields_of a.fields) (length a.section.now) c.requires.1).most
 
 pub returns-in-Plain : goal.returns-in-Plain
-returns-in-Plain c = whole (goal.at.returns-in-Plain c).Start plain _ (ap edition_of c.in-Plain.is) plain_whole c.whole.ensures
-
-pub returns-in-Lucene : goal.returns-in-Lucene
-returns-in-Lucene c = whole (goal.at.returns-in-Lucene c).Start lucene _ (ap edition_of c.in-Lucene.is) lucene_whole c.whole-in-Lucene.ensures
+returns-in-Plain c =
+    let s = (goal.at.returns-in-Plain c).Start in
+    ⊎_elim (λ e. whole s plain _ (ap edition_of e) plain_whole c.whole.ensures) (λ e. whole s lucene _ (ap edition_of e) lucene_whole c.whole.ensures)
+    c.in-Plain.is

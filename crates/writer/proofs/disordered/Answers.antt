@@ -15,7 +15,7 @@ loop-i-preserved c =
     let e : i + 1 - 1 ≡ i = omega arith in (
       omega arith,
       λ q.
-          let t = neither c.loop-i.bad (leb (get_or xs i 0) (get_or xs (i - 1) 0)) (sym c.worse-bad.ensures ∙ q) in
+          let t = neither c.loop-i.bad (leb (get_or xs i 0) (get_or xs (i - 1) 0)) q in
           c.loop-i.invariant.1 t.0 ∙ order_more xs i (get_or xs (i - 1) 0) (omega arith) (leb-false _ _ t.1)
           ∙ ap (λ (k : ℕ). not_above (i + 1) (get_or xs k 0) (drop (i + 1) xs)) (sym e),
     )

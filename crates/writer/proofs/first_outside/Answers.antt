@@ -1,5 +1,5 @@
 -- `writer::first_outside` meets its contract. Assumes nothing.
-use Rattle.format.specs.Kit.{arith, refl, sym, ◌∙◌, ◌-◌}
+use Rattle.format.specs.Kit.{arith, refl, sym, ◌∙◌}
 use Rattle.writer.proofs.Faults.{range_end, range_more, range_here}
 use Rattle.writer.proofs.first_outside.Goals as goal
 

@@ -26,32 +26,32 @@ returns-then-not-power_ok c =
     ask_power a.power a.ids.now a.values.now next c.if-ids-values.false
     (ap power_ok (sym c.wide32.ensures.0) ∙ sym e.ensures ∙ c.if-not-power_ok.true)
 
-pub returns-in-At : goal.returns-in-At
-returns-in-At c =
+pub returns-in-Some : goal.returns-in-Some
+returns-in-Some c =
     let a = c.args in
-    let two = passed_two (goal.at.returns-in-At c).Else-not-power_ok in
-    let order = sym c.order_fault-order.ensures ∙ ap fault_of c.in-At.is in
+    let two = passed_two (goal.at.returns-in-Some c).Else-not-power_ok in
+    let order = sym c.order_fault.ensures ∙ ap fault_of c.in-Some.is in
     λ next.
     ap {B = Outcome (List ℕ)} (λ (x : ℕ). refused ORDER x) c.long.ensures
     ∙ ask_order a.power a.ids.now a.values.now next _ two.0 two.1 order
 
-pub range_fault-range-requires : goal.range_fault-range-requires
-range_fault-range-requires c = sym c.order_fault-order.ensures ∙ ap fault_of c.in_default.is
+pub range_fault-requires : goal.range_fault-requires
+range_fault-requires c = sym c.order_fault.ensures ∙ ap fault_of c.in_default.is
 
-pub returns-in-At-range : goal.returns-in-At-range
-returns-in-At-range c =
+pub returns-in-Some-range_fault : goal.returns-in-Some-range_fault
+returns-in-Some-range_fault c =
     let a = c.args in
-    let two = passed_two (goal.at.returns-in-At-range c).Else-not-power_ok in
-    let order = sym c.order_fault-order.ensures ∙ ap fault_of c.in_default.is in
-    let range = sym c.range_fault-range.ensures ∙ ap fault_of c.in-At-range.is in
+    let two = passed_two (goal.at.returns-in-Some-range_fault c).Else-not-power_ok in
+    let order = sym c.order_fault.ensures ∙ ap fault_of c.in_default.is in
+    let range = sym c.range_fault.ensures ∙ ap fault_of c.in-Some-range_fault.is in
     λ next.
-    ap {B = Outcome (List ℕ)} (λ (x : ℕ). refused RANGE x) c.long-in-At-range.ensures
+    ap {B = Outcome (List ℕ)} (λ (x : ℕ). refused RANGE x) c.long-in-Some-range_fault.ensures
     ∙ ask_range a.power a.ids.now a.values.now next _ two.0 two.1 order range
 
 pub returns : goal.returns
 returns c =
     let a = c.args in
     let two = passed_two (goal.at.returns c).Else-not-power_ok in
-    let order = sym c.order_fault-order.ensures ∙ ap fault_of c.in_default.is in
-    let range = sym c.range_fault-range.ensures ∙ ap fault_of c.in_default-range.is in
+    let order = sym c.order_fault.ensures ∙ ap fault_of c.in_default.is in
+    let range = sym c.range_fault.ensures ∙ ap fault_of c.in_default-range_fault.is in
     λ next. ask_none a.power a.ids.now a.values.now next two.0 two.1 order range

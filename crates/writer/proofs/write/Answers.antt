@@ -29,10 +29,10 @@ returns c =
     let e = c.write_as.ensures in
     let a = c.args in
     let room : ℕ = length a.out.now in
-    let known : edition_in editions a.edition ≡ some (edition_of c.in-Is.told) =
-    ap (edition_in editions) (sym c.wide32.ensures.0) ∙ sym c.edition_in.ensures ∙ ap known_of c.in-Is.is in
+    let known : edition_in editions a.edition ≡ some (edition_of c.in-Some.told) =
+    ap (edition_in editions) (sym c.wide32.ensures.0) ∙ sym c.edition_in.ensures ∙ ap known_of c.in-Some.is in
     let same =
     sym
     (ap (λ (k : ℕ). write k a.power a.ids.now a.values.now room) (found_number editions a.edition _ known)
-    ∙ told (edition_of c.in-Is.told) a.power a.ids.now a.values.now room) in
+    ∙ told (edition_of c.in-Some.told) a.power a.ids.now a.values.now room) in
     record { replies = e.replies ∙ ap write_reply same; written = e.written ∙ ap (λ (o : Outcome (List ℕ)). write_out o a.out.now) same }

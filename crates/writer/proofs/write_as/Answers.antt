@@ -1,28 +1,20 @@
 -- `writer::write_as` meets its contract. Assumes nothing.
 use Rattle.format.specs.Kit.{sym, ap, ◌∙◌, List, ℕ, length}
+use Rattle.answers.proofs.PassedOn.{passed_on}
 use Rattle.format.specs.Refusals.{Outcome}
 use Rattle.format.specs.Editions.{Edition}
 use Rattle.format.specs.Plan.{chosen}
 use Rattle.format.specs.Writer.{write_as, write_reply, write_out}
 use Rattle.values.specs.Edition.{edition_of}
-use Rattle.writer.specs.Asked.{Passed}
-use Rattle.writer.proofs.Written.{fine_passed, why_as, no_plan, chosen_all, refused_both}
+use Rattle.writer.proofs.Written.{why_as, no_plan, chosen_all, refused_both}
 use Rattle.writer.proofs.write_as.Goals as goal
-use Rattle.writer.proofs.write_as.Goals.{After-by_plan}
 
-pub returns-in-Refused : goal.returns-in-Refused
-returns-in-Refused c =
+pub returns-in_err-refusal_of : goal.returns-in_err-refusal_of
+returns-in_err-refusal_of c =
     let a = c.args in
     let both = refused_both _ a.out.now
-    (why_as a.power a.ids.now a.values.now (length a.out.now) c.refusal_of-a.result _ c.refusal_of-a.ensures c.in-Refused.is
-    (chosen (edition_of a.edition) a.values.now)) in
-    record { replies = both.0; written = both.1 }
-
--- nothing is refused
-passed : (c : After-by_plan) → let a = c.args in Passed a.power a.ids.now a.values.now
-passed c =
-    let a = c.args in
-    fine_passed a.power a.ids.now a.values.now c.refusal_of-a.result c.refusal_of-a.ensures c.in_default.is
+    (why_as a.power a.ids.now a.values.now (length a.out.now) _ c.in_err-refusal_of.ensures (chosen (edition_of a.edition) a.values.now)) in
+    rw (passed_on c.from_residual.result _ c.from_residual.ensures.1) (record { replies = both.0; written = both.1 })
 
 -- by the planner's plan
 pub returns-then-by_plan : goal.returns-then-by_plan
@@ -36,7 +28,7 @@ returns-then-by_plan c =
 pub write_by-requires : goal.write_by-requires
 write_by-requires c =
     let a = c.args in
-    (passed (goal.at.write_by-requires c).After-by_plan, no_plan (edition_of a.edition) _ a.values.now (c.by_plan.ensures.1 c.if-by_plan.false))
+    (c.in_ok-refusal_of.ensures, no_plan (edition_of a.edition) _ a.values.now (c.by_plan.ensures.1 c.if-by_plan.false))
 
 pub returns : goal.returns
 returns c =
@@ -47,4 +39,4 @@ returns c =
     record { replies = c.write_by.ensures.replies ∙ ap write_reply same; written = c.write_by.ensures.written ∙ ap (λ (o : Outcome (List ℕ)). write_out o a.out.now) same }
 
 pub write_own-requires : goal.write_own-requires
-write_own-requires c = passed (goal.at.write_own-requires c).After-by_plan
+write_own-requires c = c.in_ok-refusal_of.ensures

@@ -14,17 +14,5 @@ returns c =
           (numbers_more 1 s _ (quick_at c.quick_number-g.ensures c.if-g-eq0.false c.place_after-after_g.ensures.0)
           (numbers_more 0 s _ (quick_at c.quick_more-v.ensures c.if-v-eq0.false c.place_after-start.ensures.0)
           (numbers_none s _))));
-      head = c.quick_head.ensures;
+      head = c.head_from.ensures;
     }
-
-pub returns-then-w-eq0 : goal.returns-then-w-eq0
-returns-then-w-eq0 c n = absurd (n c.no_header.ensures)
-
-pub returns-then-smallest-eq0 : goal.returns-then-smallest-eq0
-returns-then-smallest-eq0 c n = absurd (n c.no_header-then-smallest-eq0.ensures)
-
-pub returns-then-g-eq0 : goal.returns-then-g-eq0
-returns-then-g-eq0 c n = absurd (n c.no_header-then-g-eq0.ensures)
-
-pub returns-then-v-eq0 : goal.returns-then-v-eq0
-returns-then-v-eq0 c n = absurd (n c.no_header-then-v-eq0.ensures)

@@ -1,5 +1,5 @@
 -- `demands::fits::each_fits` meets its contract. The loop's invariant: if the values from i on fit, all do. Assumes nothing.
-use Rattle.format.specs.Kit.{◌≡◌, sym, subst, [], ◌∷◌, ◌+◌, ◌-◌, ◌<◌, ◌≤◌, ◌^◌, add-one, arith, pos, ℤ, mag, length, get_or, drop, drop-cons}
+use Rattle.format.specs.Kit.{◌≡◌, sym, subst, [], ◌∷◌, ◌+◌, ◌<◌, ◌≤◌, ◌^◌, add-one, pos, ℤ, mag, length, get_or, drop, drop-cons}
 use Rattle.format.specs.Kit.{drop_of_length-le}
 use Rattle.format.specs.Pairs.{Each, Fits}
 use Rattle.laws.proofs.Fits.{size_fits}
@@ -12,13 +12,10 @@ loop-i-preserved c =
     let v : ℤ = get_or vs i (pos 0) in
     let f : mag v < 2 ^ 63 = c.look_at-arg-1.given in
     let d : drop i vs ≡ v ∷ drop (i + 1) vs = rw (add-one i) (drop-cons vs i (pos 0) c.loop-i-test.true) in
-    (omega arith, λ r. c.loop-i.invariant.1 (subst (Each Fits) (sym d) (size_fits v f, r)))
+    λ r. c.loop-i.invariant (subst (Each Fits) (sym d) (size_fits v f, r))
 
 pub returns : goal.returns
 returns c =
     let past : length c.args.values.now ≤ c.loop-i.i = c.loop-i-test.false in
     let d : drop c.loop-i.i c.args.values.now ≡ [] = rw drop_of_length-le in
-    c.loop-i.invariant.1 (subst (Each Fits) (sym d) tt)
-
-pub loop-i-init : goal.loop-i-init
-loop-i-init c = (omega arith, λ r. r)
+    c.loop-i.invariant (subst (Each Fits) (sym d) tt)

@@ -1,28 +1,28 @@
 -- `demands::pairs::open_then_first_between_from` meets its contract. Assumes nothing.
-use Rattle.format.specs.Kit.{sym, ap, ap₂, ◌∙◌, ℤ}
+use Rattle.format.specs.Kit.{sym, ap₂, ◌∙◌, ℤ}
 use Rattle.format.specs.Editions.{editions}
 use Rattle.format.specs.Opening.{Opened}
 use Rattle.format.specs.BetweenFrom.{first_between_from_in}
-use Rattle.column.specs.Opened.{column_of, opened_of}
+use Rattle.column.specs.Opened.{column_of}
 use Rattle.laws.proofs.BetweenFrom.{opened_between_from}
 use Rattle.signed.proofs.Signs.{read_back}
 use Rattle.demands.proofs.Lists.{not_refused}
 use Rattle.demands.proofs.Answers.{from_scans, from_others}
 use Rattle.demands.proofs.pairs.open_then_first_between_from.Goals as goal
 
-pub returns-in-Refused : goal.returns-in-Refused
-returns-in-Refused c =
+pub returns-in_err-opened : goal.returns-in_err-opened
+returns-in_err-opened c =
     let a = c.args in
-    let e = c.in-Refused.is in
-    record { scans = λ n x h. not_refused a.bytes.now _ _ c.open-opening.ensures e n x; others = λ n x h. not_refused a.bytes.now _ _ c.open-opening.ensures e n x }
+    let e = c.in_err-opened.ensures in
+    record { scans = λ n x h. not_refused a.bytes.now e n x; others = λ n x h. not_refused a.bytes.now e n x }
 
-pub returns-in-Open : goal.returns-in-Open
-returns-in-Open c =
+pub returns : goal.returns
+returns c =
     let a = c.args in
     let b = a.bytes.now in
     let i = a.from in
-    let col : Opened = column_of c.in-Open.column in
-    let opens = sym c.open-opening.ensures ∙ ap opened_of c.in-Open.is in
+    let col : Opened = column_of c.in_ok-opened.opened in
+    let opens = sym c.in_ok-opened.ensures in
     let e =
     c.first_between_from_in.ensures
     ∙ ap₂ (λ (x y : ℤ). first_between_from_in b col i x y) (read_back a.low c.ranges.low.sfits) (read_back a.high c.ranges.high.sfits)

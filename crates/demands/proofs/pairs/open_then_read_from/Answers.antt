@@ -3,22 +3,21 @@ use Rattle.format.specs.Kit.{sym, ap, ◌∙◌, min, length}
 use Rattle.format.specs.Refusals.{Outcome}
 use Rattle.format.specs.Editions.{editions}
 use Rattle.format.specs.ReadFrom.{Readout, readout_reply, readout_after}
-use Rattle.column.specs.Opened.{opened_of}
 use Rattle.laws.proofs.ReadCalls.{opened_read_from}
 use Rattle.demands.proofs.Lists.{not_refused}
 use Rattle.demands.proofs.Answers.{read_from_answers}
 use Rattle.demands.proofs.pairs.open_then_read_from.Goals as goal
 
-pub returns-in-Refused : goal.returns-in-Refused
-returns-in-Refused c =
-    λ n x. not_refused c.args.bytes.now _ _ c.open-opening.ensures c.in-Refused.is n x
+pub returns-in_err-opened : goal.returns-in_err-opened
+returns-in_err-opened c =
+    λ n x. not_refused c.args.bytes.now c.in_err-opened.ensures n x
 
-pub returns-in-Open : goal.returns-in-Open
-returns-in-Open c =
+pub returns : goal.returns
+returns c =
     let a = c.args in
     let b = a.bytes.now in
     let room = min (length a.ids.now) (length a.values.now) in
-    let opens = sym c.open-opening.ensures ∙ ap opened_of c.in-Open.is in
+    let opens = sym c.in_ok-opened.ensures in
     let same = opened_read_from b _ a.id room editions opens in
     let e = c.read_from_in.ensures in
     read_from_answers b a.id a.ids.now _ a.values.now _ c.read_from_in.result

@@ -3,11 +3,6 @@ use Rattle.format.specs.Kit.{arith}
 use Rattle.layered_page.proofs.Answered.{answers_so}
 use Rattle.layered_page.proofs.under.answer.Goals as goal
 
-pub lost-uncounted-requires : goal.lost-uncounted-requires
-lost-uncounted-requires c =
-    let p = c.requires in
-    (p.4, omega (arith, c.fill_by-words.auto.kinds, p.0))
-
 pub returns : goal.returns
 returns c =
     let p = c.requires in

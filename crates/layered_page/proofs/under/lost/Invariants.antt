@@ -1,4 +1,3 @@
-use Rattle.format.specs.Kit.{◌-◌, ◌≤◌, length}
 use Rattle.column.specs.Opened.{opened_of}
 use Rattle.page.specs.Openings.{look_by}
 use Rattle.layered_page.proofs.Lost.{Losing}
@@ -6,7 +5,4 @@ use Rattle.layered_page.proofs.under.lost.Given as goal
 
 -- `layered_page::under::lost` meets its contract. Assumes nothing.
 abbrev pub invariant-loop-i : goal.invariant-loop-i
-invariant-loop-i l = Losing (look_by l.bytes (opened_of l.opening)) l.kinds l.ids l.i l.words × (l.i ≤ length l.ids)
-
-abbrev pub decreases-loop-i : goal.decreases-loop-i
-decreases-loop-i l = length l.ids - l.i
+invariant-loop-i l = Losing (look_by l.bytes (opened_of l.opening)) l.kinds l.ids l.i l.words

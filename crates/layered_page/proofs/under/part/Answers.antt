@@ -4,11 +4,6 @@ use Rattle.layered_page.proofs.Gathered.{front, within_so}
 use Rattle.layered_page.proofs.Answered.{laid_many, part_under}
 use Rattle.layered_page.proofs.under.part.Goals as goal
 
-pub gather-n-requires : goal.gather-n-requires
-gather-n-requires c =
-    let p = c.requires in
-    (omega (arith, p.0), omega (arith, p.0), (laid_many p.5).2)
-
 pub answer-requires : goal.answer-requires
 answer-requires c =
     let p = c.requires in

@@ -1,4 +1,3 @@
-use Rattle.format.specs.Kit.{◌-◌, length}
 use Rattle.layered_page.proofs.Gathered.{Putting}
 use Rattle.layered_page.proofs.under.scatter.Given as goal
 
@@ -6,6 +5,3 @@ use Rattle.layered_page.proofs.under.scatter.Given as goal
 abbrev pub invariant-loop-i : goal.invariant-loop-i
 invariant-loop-i l =
     Putting l.places l.below_ordinals l.initial.ordinals l.i l.ordinals × Putting l.places l.below_values l.initial.values l.i l.values × Putting l.places l.below_kinds l.initial.kinds l.i l.kinds
-
-abbrev pub decreases-loop-i : goal.decreases-loop-i
-decreases-loop-i l = length l.places - l.i

@@ -1,5 +1,5 @@
 -- `layered_reading::runs::fours` meets its contract. Assumes nothing.
-use Rattle.format.specs.Kit.{◌-◌, arith}
+use Rattle.format.specs.Kit.{arith}
 use Rattle.layered_reading.proofs.Growing.{run_begins, run_long_ids, run_long_values, run_long_columns, run_four}
 use Rattle.layered_reading.proofs.runs.fours.Goals as goal
 

@@ -1,11 +1,7 @@
-use Rattle.format.specs.Kit.{◌≡◌, ◌+◌, ◌-◌}
 use Rattle.layered_reading.specs.Runs.{RunTo}
 use Rattle.layered_reading.proofs.runs.ones.Given as goal
 
 -- `layered_reading::runs::ones` meets its contract. Assumes nothing.
 abbrev pub invariant-loop-k : goal.invariant-loop-k
 invariant-loop-k l =
-    (RunTo l.i l.m l.end l.id l.k l.machine_ids l.machine_values l.initial.ids l.ids l.initial.values l.values l.initial.columns l.columns) × (l.p ≡ l.i + (l.k - l.m))
-
-abbrev pub decreases-loop-k : goal.decreases-loop-k
-decreases-loop-k l = l.end - l.k
+    RunTo l.i l.m l.end l.id l.k l.machine_ids l.machine_values l.initial.ids l.ids l.initial.values l.values l.initial.columns l.columns

@@ -6,14 +6,14 @@ use Rattle.signed.specs.Sign.{unbiased}
 use Rattle.lookup.proofs.Words.{told_found, told_absent, told_broken}
 use Rattle.lookup.proofs.apart.answer_of.Goals as goal
 
-pub returns-then-told-eq0 : goal.returns-then-told-eq0
-returns-then-told-eq0 c n o b e =
+pub returns-then-told-eq-FOUND : goal.returns-then-told-eq-FOUND
+returns-then-told-eq-FOUND c n o b e =
     rw (to_z-of_z {w = w64} {z = c.unbiased.result} (search rules))
-    (told_found n c.args.told.now o b e c.if-told-eq0.true c.unbiased.result
+    (told_found n c.args.told.now o b e c.if-told-eq-FOUND.true c.unbiased.result
     (c.unbiased.ensures ∙ ap unbiased c.turned.ensures.0))
 
-pub returns-then-told-eq1 : goal.returns-then-told-eq1
-returns-then-told-eq1 c n o b e = told_absent n c.args.told.now o b e c.if-told-eq1.true
+pub returns-then-told-eq-ABSENT : goal.returns-then-told-eq-ABSENT
+returns-then-told-eq-ABSENT c n o b e = told_absent n c.args.told.now o b e c.if-told-eq-ABSENT.true
 
 pub returns : goal.returns
-returns c n o b e = (told_broken n c.args.told.now o b e c.if-told-eq0.false c.if-told-eq1.false, tt)
+returns c n o b e = (told_broken n c.args.told.now o b e c.if-told-eq-FOUND.false c.if-told-eq-ABSENT.false, tt)

@@ -1,14 +1,14 @@
 -- `lookup::apart::steps_of` meets its contract: `locate` leaves step 7, and the value section answers it. Assumes nothing.
-use Rattle.format.specs.Kit.{◌≡◌, refl, sym, ap, ◌∙◌, subst, arith, rules, eqb-true}
+use Rattle.format.specs.Kit.{◌≡◌, refl, sym, ap, ◌∙◌, subst, eqb-true}
 use mir.Facts.{to_z-of_z}
 use mir.Syntax.{w64}
-use Rattle.format.specs.Opening.{Opened, head_ok, value_of}
+use Rattle.format.specs.Opening.{Opened, value_of}
 use Rattle.format.specs.LookUp.{halved, steps, step_probes}
 use Rattle.values.specs.Edition.{edition_of, fetched_of}
 use Rattle.lookup.specs.Steps.{Asked, located, ProbedIn}
 use Rattle.answers.specs.Words.{laid_out}
 use Rattle.lookup.specs.declared.Located as Lo
-use Rattle.lookup.proofs.Whole.{Parted, id_part_lem, id_length, value_fits, value_found, value_outside, not_located}
+use Rattle.lookup.proofs.Whole.{Parted, id_part_lem, value_fits, value_found, value_outside, not_located}
 use Rattle.lookup.proofs.apart.steps_of.Goals as goal
 use Rattle.lookup.proofs.apart.steps_of.Goals.{After-locate-place, After-size, After-value_in, Start}
 
@@ -46,31 +46,6 @@ read : (c : After-value_in) → fetched_of c.value_in.result ≡ value_of c.args
 read c =
     c.value_in.ensures ∙ ap (value_of c.args.bytes.now (col (goal.at.After-value_in c).Start)) c.wide32-ordinal.ensures.0
 
-pub overflow_add-end : goal.overflow_add-end
-overflow_add-end c = omega (arith, (parted c).starts, (parted c).ids, (parted c).whole)
-
-pub slice_bounds-locate-end : goal.slice_bounds-locate-end
-slice_bounds-locate-end c = omega (arith, (parted c).starts, (parted c).ids, (parted c).whole)
-
-pub ask_of-requires : goal.ask_of-requires
-ask_of-requires c =
-    ap (λ (x : Opened). head_ok x.head) c.laid-column.ensures ∙ c.requires.0
-
-pub locate-place-requires : goal.locate-place-requires
-locate-place-requires c =
-    rw (id_length (parted (goal.at.locate-place-requires c).After-size) ∙ sym (ap (λ (x : Opened). x.head.id_bytes) c.laid-column.ensures)) c.ask_of.ensures.1
-
-pub value_in-requires : goal.value_in-requires
-value_in-requires c =
-    let p = parted (goal.at.value_in-requires c).After-size in
-    let l = rw c.in-At.is at c.locate-place.ensures.listed in
-    record {
-      rules = c.requires.0;
-      whole = p.whole;
-      at = omega (arith, p.starts, p.ids);
-      listed = rw c.wide32-ordinal.ensures.0 (rw (asked (goal.at.value_in-requires c).After-locate-place).count at l);
-    }
-
 pub returns-in_default-place : goal.returns-in_default-place
 returns-in_default-place c =
     (sym (not_located _ _ c.locate-place.result c.in_default.not-At c.in_default-place.not-Absent) ∙ left (goal.at.returns-in_default-place c).After-locate-place, tt, (refl, refl))
@@ -85,8 +60,8 @@ returns-in_default-value_in c =
 
 pub returns : goal.returns
 returns c =
-    let z = c.in-Value.value in
-    let e = c.in-Value.is in
+    let z = c.in-Some.value in
+    let e = c.in-Some.is in
     let f = value_fits c.args.bytes.now (col (goal.at.returns c).Start) _ z (sym (read (goal.at.returns c).After-value_in) ∙ ap fetched_of e) in
     let r = to_z-of_z {w = w64} {z = z} (record { sfits = f }) in (
       rw (r, c.wide32-ordinal.ensures.0) (sym (left_at (goal.at.returns c).After-value_in ∙ value_found _ _ c.value_in.result (read (goal.at.returns c).After-value_in) z e)),

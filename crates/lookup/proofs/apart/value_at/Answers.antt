@@ -15,9 +15,3 @@ returns c =
     let a = c.args in
     value_told a.bytes.now (laid_out (edition_of a.edition) a.words.now) (column_of c.laid-column.result) a.end a.i c.laid-column.ensures c.requires
     c.slot_of-slot.result c.number_in-stored.result c.value_of.result c.slot_of-slot.ensures c.number_in-stored.ensures c.value_of.ensures
-
-pub number_in-stored-requires : goal.number_in-stored-requires
-number_in-stored-requires c = c.slot_of-slot.ensures.0
-
-pub value_of-requires : goal.value_of-requires
-value_of-requires c = c.slot_of-slot.ensures.1

@@ -26,12 +26,6 @@ eight c =
     let u = both_true _ _ t.0 in
     (ltb-true _ _ u.0, leb-true _ _ u.1, leb-true _ _ t.1)
 
-pub middle-requires : goal.middle-requires
-middle-requires c =
-    let e = eight (goal.at.middle-requires c).Then-by_eight in
-    let a = c.args in
-    (e.0, omega (arith, and_mask (a.i * a.w) 3, e.1))
-
 pub returns-then-by_eight : goal.returns-then-by_eight
 unfolding high_first fetched
 returns-then-by_eight c =
@@ -49,6 +43,3 @@ overflow_mul-bit c = omega (arith, product (goal.at.overflow_mul-bit c).Start)
 
 pub by_eight-requires : goal.by_eight-requires
 by_eight-requires c = omega (arith, product (goal.at.by_eight-requires c).Start)
-
-pub eight_at-requires : goal.eight_at-requires
-eight_at-requires c = (eight c).2

@@ -1,5 +1,5 @@
 -- `page::marks::find` meets its contract. Assumes nothing.
-use Rattle.format.specs.Kit.{◌/◌, refl, sym, ◌<◌, arith, eqb-true}
+use Rattle.format.specs.Kit.{◌/◌, ◌<◌, arith, eqb-true}
 use Rattle.laws.proofs.Rules.{head_facts}
 use Rattle.column.specs.Opened.{column_of}
 use Rattle.lookup.proofs.Whole.{Parted, id_part_lem}
@@ -37,19 +37,3 @@ returns-in-At c =
     let a = c.args in
     in_block a.bytes.now (column_of a.column) a.id (small (goal.at.returns-in-At c).Start) c.in-At.block (there (goal.at.returns-in-At c).In-At) _ _ _ c.mark_in.result
     c.size-power.ensures c.place_of.ensures.0 (id_part_lem (parted (goal.at.returns-in-At c).After-size)) c.mark_in.ensures
-
-pub returns-in-Absent : goal.returns-in-Absent
-returns-in-Absent c =
-    let g = rw c.in-Absent.is at c.requires.2 in
-    (sym (g c.args.id (small (goal.at.returns-in-Absent c).Start) refl), tt)
-
-pub returns-in-Broken : goal.returns-in-Broken
-returns-in-Broken c =
-    let g = rw c.in-Broken.is at c.requires.2 in
-    (sym (g c.args.id (small (goal.at.returns-in-Broken c).Start) refl), tt)
-
-pub overflow_add-end : goal.overflow_add-end
-overflow_add-end c = omega (arith, (parted c).whole)
-
-pub slice_bounds-mark_in-end : goal.slice_bounds-mark_in-end
-slice_bounds-mark_in-end c = omega (arith, (parted (goal.at.slice_bounds-mark_in-end c).After-size).whole)

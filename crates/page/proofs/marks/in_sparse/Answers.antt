@@ -16,10 +16,3 @@ returns c =
           (omega (arith, c.if-i-lt-NOWHERE.false)),
       tt,
     )
-
-pub overflow_cast-r : goal.overflow_cast-r
-overflow_cast-r c = omega (arith, c.requires.3)
-
-pub overflow_add-result : goal.overflow_add-result
-overflow_add-result c = let b = c.args.block in
-    omega (arith, c.if-i-lt-NOWHERE.true, c.requires.4)

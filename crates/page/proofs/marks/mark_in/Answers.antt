@@ -55,6 +55,3 @@ returns-in-All c =
     let b = c.args.block in
     let f = of_all c.args.p b.count c.args.s.now b.start c.args.r (is_all (goal.at.returns-in-All c).In-All) in
     (rw (c.long.ensures, f.0) refl, omega (arith, c.long.ensures, all_count b.count (is_all (goal.at.returns-in-All c).In-All), c.requires.1))
-
-pub overflow_add-result : goal.overflow_add-result
-overflow_add-result c = omega (arith, c.long.ensures, c.requires.1, c.requires.5)

@@ -1,5 +1,5 @@
 -- `page::marks::met_in` meets its contract. Assumes nothing.
-use Rattle.format.specs.Kit.{arith, eqb-true}
+use Rattle.format.specs.Kit.{eqb-true}
 use Rattle.column.specs.Opened.{column_of}
 use Rattle.lookup.proofs.Whole.{Parted, id_part_lem, id_length}
 use Rattle.page.proofs.Marking.{block_is}
@@ -15,9 +15,6 @@ parted c =
       whole = eqb-true _ _ c.requires.1;
     }
 
-pub block_for-requires : goal.block_for-requires
-block_for-requires c = rw (id_length (parted (goal.at.block_for-requires c).After-size)) c.ask_of.ensures.1
-
 pub returns : goal.returns
 returns c =
     let p = parted (goal.at.returns c).After-size in
@@ -25,9 +22,3 @@ returns c =
     let a = c.args in
     block_is a.bytes.now (column_of a.column) a.id _ _ (id_part_lem p) q.ensures.0 (rw (id_length p) q.ensures.1) c.block_for.result
     c.block_for.ensures
-
-pub overflow_add-end : goal.overflow_add-end
-overflow_add-end c = omega (arith, (parted c).whole)
-
-pub slice_bounds-block_for-end : goal.slice_bounds-block_for-end
-slice_bounds-block_for-end c = omega (arith, (parted c).whole)

@@ -19,6 +19,3 @@ returns-then-short_at-r c =
 pub returns : goal.returns
 returns c =
     (mark_none _ _ (entry_none _ _ _ _ c.requires.3 _ c.requires.4 (λ l e. c.if-short_at-r.false (c.short_at.ensures.0 ∙ e))), tt)
-
-pub overflow_add-result : goal.overflow_add-result
-overflow_add-result c = omega (arith, c.long.ensures, c.if-block-j.false, c.requires.2)

@@ -18,10 +18,6 @@ left c =
     c.mark_next-mark.ensures.0
     ∙ sym (steps_by c.args.bytes.now c.args.id (le-leb c.args.id max_id c.requires.1.in_limit) (column_of c.args.column))
 
-pub plain_valued-requires : goal.plain_valued-requires
-plain_valued-requires c =
-    (c.requires.0.0, c.requires.0.1, rw c.in-At.is at c.mark_next-mark.ensures.1, c.requires.1.edition)
-
 pub returns-in-At : goal.returns-in-At
 returns-in-At c =
     let a = c.args in
@@ -39,6 +35,3 @@ returns-in-Broken c =
     let a = c.args in
     subst (λ (x : Outcome Look). Holds x c.refused.result)
     (ap (marked a.bytes.now (column_of a.column)) (sym c.in-Broken.is) ∙ left (goal.at.returns-in-Broken c).After-mark_next-mark) c.refused.ensures
-
-pub mark_next-mark-requires : goal.mark_next-mark-requires
-mark_next-mark-requires c = c.requires

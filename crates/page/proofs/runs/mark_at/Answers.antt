@@ -32,15 +32,9 @@ returns-in-Sparse c =
       c.entry_mark.ensures.1,
     )
 
-pub returns-in-Dense : goal.returns-in-Dense
-returns-in-Dense c = absurd (c.requires.2 (sym c.requires.1 ∙ ap kind_is c.in-Dense.is))
-
 pub returns-in-All : goal.returns-in-All
 returns-in-All c =
     let b = c.args.block in (
       λ p. let f = of_all p b.count c.args.s.now b.start c.args.r (is_all (goal.at.returns-in-All c).In-All) in rw (c.long-in-All.ensures, f.0) refl,
       omega (arith, c.long-in-All.ensures, all_count b.count (is_all (goal.at.returns-in-All c).In-All), c.requires.0),
     )
-
-pub overflow_add-result : goal.overflow_add-result
-overflow_add-result c = omega (arith, c.long-in-All.ensures, c.requires.0, c.requires.3)

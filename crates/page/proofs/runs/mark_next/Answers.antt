@@ -36,9 +36,3 @@ returns c =
     let a = c.args in
     in_block a.bytes.now (column_of a.column) a.id (small (goal.at.returns c).Start) a.block c.requires.1.block (column_of a.column).head.power _ _
     c.mark_at.result refl c.place_of.ensures.0 (id_part_lem (parted (goal.at.returns c).After-size)) (c.mark_at.ensures.0 _, c.mark_at.ensures.1)
-
-pub overflow_add-end : goal.overflow_add-end
-overflow_add-end c = omega (arith, (parted c).whole)
-
-pub slice_bounds-mark_at-end : goal.slice_bounds-mark_at-end
-slice_bounds-mark_at-end c = omega (arith, (parted c).whole)

@@ -1,5 +1,5 @@
 -- `page::runs::next_entry` meets its contract. Assumes nothing.
-use Rattle.format.specs.Kit.{arith, eqb-true}
+use Rattle.format.specs.Kit.{eqb-true}
 use Rattle.column.specs.Opened.{column_of}
 use Rattle.lookup.proofs.Whole.{Parted, id_part_lem}
 use Rattle.page.proofs.InTurn.{sparse_fits}
@@ -24,9 +24,3 @@ entry_from-requires c = (
 
 pub returns : goal.returns
 returns c e = rw (id_part_lem (parted (goal.at.returns c).After-size), ← c.place_of.ensures.0) (c.entry_from.ensures e)
-
-pub overflow_add-end : goal.overflow_add-end
-overflow_add-end c = omega (arith, (parted c).whole)
-
-pub slice_bounds-entry_from-end : goal.slice_bounds-entry_from-end
-slice_bounds-entry_from-end c = omega (arith, (parted c).whole)

@@ -1,10 +1,6 @@
-use Rattle.format.specs.Kit.{◌-◌, ◌≤◌}
 use Rattle.page.specs.Runs.{Ready}
 use Rattle.page.proofs.runs.reached.Given as goal
 
 -- `page::runs::reached` meets its contract. Assumes nothing.
 abbrev pub invariant-loop-j : goal.invariant-loop-j
-invariant-loop-j l = (l.j ≤ l.count) × (Ready l.s l.at l.j l.r)
-
-abbrev pub decreases-loop-j : goal.decreases-loop-j
-decreases-loop-j l = l.count - l.j
+invariant-loop-j l = Ready l.s l.at l.j l.r

@@ -1,28 +1,14 @@
 -- `page::runs::run_end` meets its contract. Assumes nothing.
-use Rattle.format.specs.Kit.{◌-◌, arith}
-use Rattle.page.proofs.InTurn.{run_one, run_more}
+use Rattle.format.specs.Kit.{◌≡◌, subst, arith, length}
+use Rattle.page.specs.Runs.{Run}
+use Rattle.page.proofs.InTurn.{run_more}
 use Rattle.page.proofs.runs.run_end.Goals as goal
 
 pub loop-e-preserved : goal.loop-e-preserved
-loop-e-preserved c =
-    let v = c.loop-e.invariant in
-    let a = c.args in
-    (omega (arith, v.0), omega (arith, c.loop-e-test.true), run_more a.ids.now a.i c.loop-e.e v.2 v.0 (c.follows.ensures c.if-not-follows.false))
-
-pub loop-e-init : goal.loop-e-init
-loop-e-init c = (omega arith, omega (arith, c.requires), run_one c.args.ids.now c.args.i)
-
-pub overflow_sub-e : goal.overflow_sub-e
-overflow_sub-e c = omega (arith, c.loop-e.invariant.0)
-
-pub bounds-ids-e : goal.bounds-ids-e
-bounds-ids-e c = omega (arith, c.loop-e-test.true)
-
-pub bounds-ids-e-in-loop-e : goal.bounds-ids-e-in-loop-e
-bounds-ids-e-in-loop-e c = omega (arith, c.loop-e-test.true)
-
-pub returns-then-not-follows : goal.returns-then-not-follows
-returns-then-not-follows c = c.loop-e.invariant
+loop-e-preserved c = run_more _ _ _ c.loop-e.invariant (omega arith) (c.follows.ensures c.if-not-follows.false)
 
 pub returns : goal.returns
-returns c = c.loop-e.invariant
+returns c =
+    let a = c.args in
+    let z : c.loop-e.e ≡ length a.ids.now = omega (arith, c.loop-e-test.false) in
+    (c.requires, omega arith, subst (Run a.ids.now a.i) z c.loop-e.invariant)

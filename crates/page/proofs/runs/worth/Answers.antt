@@ -1,13 +1,12 @@
 -- `page::runs::worth` meets its contract. Assumes nothing.
 use Rattle.format.specs.Kit.{◌≡◌, sym, ap, ◌∙◌, arith, eqb-true}
-use Rattle.format.specs.Ids.{sparse, all, kind_of}
+use Rattle.format.specs.Ids.{sparse, kind_of}
 use Rattle.format.specs.Opening.{id_part}
-use Rattle.laws.proofs.Cases.{false_true}
 use Rattle.blocks.specs.Kinds.{kind_is}
 use Rattle.in_block.proofs.ByKind.{of_sparse}
 use Rattle.column.specs.Opened.{column_of}
 use Rattle.lookup.proofs.Whole.{Parted, id_part_lem}
-use Rattle.page.proofs.InTurn.{not_both, sparse_dense, sparse_all, dense_all}
+use Rattle.page.proofs.InTurn.{not_both, sparse_dense}
 use Rattle.page.proofs.runs.worth.Goals as goal
 use Rattle.page.proofs.runs.worth.Goals.{After-size, In-Sparse}
 
@@ -33,20 +32,3 @@ climb-requires c =
 pub returns-else-n-count : goal.returns-else-n-count
 returns-else-n-count c z =
     (λ d. not_both sparse_dense (is_sparse (goal.at.returns-else-n-count c).In-Sparse) d, λ y. rw (id_part_lem (parted (goal.at.returns-else-n-count c).After-size)) (c.climb.ensures z))
-
-pub returns-in-All : goal.returns-in-All
-returns-in-All c z =
-    let a : kind_of c.args.block.count ≡ all = sym c.requires.2 ∙ ap kind_is c.in-All.is in
-    (λ d. not_both dense_all d a, λ y. not_both sparse_all y a)
-
-pub overflow_add-end : goal.overflow_add-end
-overflow_add-end c = omega (arith, (parted c).whole)
-
-pub returns-then-n-count : goal.returns-then-n-count
-returns-then-n-count c z = false_true z
-
-pub slice_bounds-climb-end : goal.slice_bounds-climb-end
-slice_bounds-climb-end c = omega (arith, (parted (goal.at.slice_bounds-climb-end c).After-size).whole)
-
-pub returns-in-Dense : goal.returns-in-Dense
-returns-in-Dense c z = false_true z

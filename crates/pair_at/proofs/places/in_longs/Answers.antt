@@ -3,7 +3,6 @@ use Rattle.format.specs.Kit.{◌≡◌, refl, ap, ◌∙◌, ◌+◌, ◌-◌, �
 use Rattle.format.specs.Bytes.{low_at}
 use Rattle.format.specs.PairAt.{bit_after}
 use Rattle.pair_at.proofs.BitAfter.{long_passed, bit_found}
-use Rattle.pair_at.proofs.InBlock.{is_place}
 use Rattle.pair_at.proofs.places.in_longs.Goals as goal
 use Rattle.pair_at.proofs.places.in_longs.Goals.{After-long_at-long}
 
@@ -20,19 +19,19 @@ loop-k-preserved c =
     let w = long_passed a.s.now a.m l.k (small (goal.at.loop-k-preserved c).After-long_at-long) (64 * (a.end - (l.k + 1))) l.j (omega (arith, c.if-j-ones.false, ones)) in
     let many : 64 + 64 * (a.end - (l.k + 1)) ≡ 64 * (a.end - l.k) = omega (arith, c.loop-k-test.true) in
     let up : 64 * l.k + 64 ≡ 64 * (l.k + 1) = omega arith in
-    (omega (arith, c.loop-k-test.true), l.invariant.1 ∙ (rw (many, up, ← ones) at w))
+    l.invariant ∙ (rw (many, up, ← ones) at w)
 
 pub returns-then-j-ones : goal.returns-then-j-ones
 returns-then-j-ones c =
     let l = c.loop-k in
     let a = c.args in
     let n = c.nth_one.ensures in
-    let e = c.long_at-long.ensures in
-    is_place _ _
-    (l.invariant.1
-    ∙ bit_found a.s.now a.m l.k (small (goal.at.returns-then-j-ones c).After-long_at-long) c.nth_one.result l.j n.0 (rw e at n.1) (rw e at n.2) (64 * (a.end - l.k))
-    (omega (arith, n.0, c.loop-k-test.true)))
-    (omega (arith, n.0, c.loop-k-test.true, c.requires.1))
+    let e = c.long_at-long.ensures in (
+      l.invariant
+          ∙ bit_found a.s.now a.m l.k (small (goal.at.returns-then-j-ones c).After-long_at-long) c.nth_one.result l.j n.0 (rw e at n.1) (rw e at n.2) (64 * (a.end - l.k))
+          (omega (arith, n.0, c.loop-k-test.true)),
+      omega (arith, n.0, c.loop-k-test.true, c.requires.1),
+    )
 
 pub returns : goal.returns
 unfolding bit_after
@@ -40,10 +39,10 @@ returns c =
     let l = c.loop-k in
     let a = c.args in
     let z : 64 * (a.end - l.k) ≡ 0 = omega (arith, c.loop-k-test.false) in
-    (l.invariant.1 ∙ rw z refl, omega arith)
+    l.invariant ∙ rw z refl
 
 pub loop-k-init : goal.loop-k-init
-loop-k-init c = (c.requires.0, refl)
+loop-k-init c = refl
 
 pub overflow_mul-k : goal.overflow_mul-k
 overflow_mul-k c = omega (arith, c.loop-k-test.true, c.requires.1)
@@ -67,9 +66,3 @@ overflow_add-result c = omega (
   c.requires.1,
   c.nth_one.ensures.0,
 )
-
-pub overflow_add-k : goal.overflow_add-k
-overflow_add-k c = omega (arith, c.if-j-ones.false)
-
-pub loop-k-smaller : goal.loop-k-smaller
-loop-k-smaller c = omega (arith, c.loop-k-test.true)

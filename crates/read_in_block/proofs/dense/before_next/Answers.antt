@@ -1,12 +1,10 @@
 -- `read_in_block::dense::before_next` meets its contract. Assumes nothing.
-use Rattle.format.specs.Kit.{◌≡◌, sym, ◌∙◌, ◌+◌, ◌*◌, arith}
+use Rattle.format.specs.Kit.{◌≡◌, sym, ◌∙◌, ◌+◌, ◌*◌}
 use Rattle.format.specs.LookUp.{stride_long}
 use Rattle.read_in_block.proofs.Strides.{at_start, by_long}
 use Rattle.read_in_block.proofs.dense.before_next.Goals as goal
 
 -- after the last long
-pub returns-then-r-eq-PLACES : goal.returns-then-r-eq-PLACES
-returns-then-r-eq-PLACES c = λ h. absurd (omega (arith, h, c.if-r-eq-PLACES.true))
 
 pub returns-then-stride_long-k : goal.returns-then-stride_long-k
 returns-then-stride_long-k c =
@@ -20,6 +18,3 @@ returns c =
     let a = c.args in
     let e : stride_long a.p (64 * (a.k + 1)) ≡ a.k + 1 → ⊥ = λ w. c.if-stride_long-k.false (c.stride_long.ensures.0 ∙ w) in
     λ h. c.requires.3 ∙ sym (by_long a.p c.requires.0 a.s.now a.t a.k e)
-
-pub stride_long-requires : goal.stride_long-requires
-stride_long-requires c = (c.requires.0, omega (arith, c.requires.1, c.if-r-eq-PLACES.false))

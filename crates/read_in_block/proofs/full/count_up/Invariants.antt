@@ -1,4 +1,4 @@
-use Rattle.format.specs.Kit.{◌≡◌, ◌+◌, ◌-◌, ◌≤◌}
+use Rattle.format.specs.Kit.{◌≡◌, ◌+◌, ◌-◌}
 use Rattle.format.specs.Stores.{Fill}
 use Rattle.read_in_block.specs.Rows.{up_from}
 use Rattle.read_in_block.proofs.full.count_up.Given as goal
@@ -6,7 +6,4 @@ use Rattle.read_in_block.proofs.full.count_up.Given as goal
 -- `read_in_block::full::count_up` meets its contract. Invariant: what is left are the ids from y on. Assumes nothing.
 abbrev pub invariant-loop-i : goal.invariant-loop-i
 invariant-loop-i l =
-    (l.from ≤ l.i) × (l.i ≤ l.end) × (l.y + (l.end - l.i) ≡ l.id + (l.end - l.from)) × Fill l.initial.ids l.from (up_from l.id (l.end - l.from)) l.ids l.i (up_from l.y (l.end - l.i))
-
-abbrev pub decreases-loop-i : goal.decreases-loop-i
-decreases-loop-i l = l.end - l.i
+    (l.y + (l.end - l.i) ≡ l.id + (l.end - l.from)) × Fill l.initial.ids l.from (up_from l.id (l.end - l.from)) l.ids l.i (up_from l.y (l.end - l.i))

@@ -1,20 +1,18 @@
 -- `read_in_block::sparse::one_by_one` meets its contract. Invariant: the part up to place r, and the entries before j are below it. Assumes nothing.
-use Rattle.format.specs.Kit.{◌≡◌, refl, sym, ap, ◌∙◌, inl, inr, List, ℕ, ◌+◌, ◌-◌, ◌*◌, ◌≤◌, ◌<◌, arith, rules, length, take, drop, set, eqb-true}
+use Rattle.format.specs.Kit.{◌≡◌, refl, sym, ap, ◌∙◌, inl, inr, List, ℕ, ◌+◌, ◌-◌, ◌*◌, ◌≤◌, ◌<◌, arith, length, take, drop, set, eqb-true}
 use mir.Facts.{to_z-of_z}
 use mir.Syntax.{w64}
 use Rattle.laws.proofs.Cases.{false_true}
-use Rattle.laws.proofs.Rules.{head_facts}
 use Rattle.values.specs.Edition.{fetched_of}
 use Rattle.column.specs.Opened.{column_of}
 use Rattle.lookup.proofs.Whole.{Parted, id_part_lem, value_fits}
 use Rattle.next_in_block.specs.First.{entry_in}
-use Rattle.next_in_block.proofs.Entries.{none_passed, one_passed}
-use Rattle.read_in_block.proofs.Parts.{stays, passes, then}
+use Rattle.read_in_block.proofs.Parts.{passes, then}
 use Rattle.read_in_block.proofs.Entries.{raised, sparse_data, sparse_end}
 use Rattle.read_in_block.proofs.Entry.{entry_taken, entry_fails}
 use Rattle.read_in_block.proofs.Left.{sparse_left}
 use Rattle.read_in_block.proofs.sparse.one_by_one.Goals as goal
-use Rattle.read_in_block.proofs.sparse.one_by_one.Goals.{After-id_of-id, After-size, After-size-e, After-value_at-found}
+use Rattle.read_in_block.proofs.sparse.one_by_one.Goals.{After-id_of-id, After-size, After-size-e, After-value_at}
 
 parted : (c : After-size)
     → Parted c.args.bytes.now (column_of c.args.column) c.size-start.result c.size.result
@@ -35,12 +33,9 @@ entry : (c : After-size-e) → (c.size-e.result ≡ entry_in (section (goal.at.A
 entry c = (c.size-e.ensures ∙ c.short_at.ensures.0, omega (arith, c.size-e.ensures, c.short_at.ensures.1))
 
 -- below the place
-pub loop-j-preserved-then-e-r : goal.loop-j-preserved-then-e-r
-loop-j-preserved-then-e-r c =
-    let l = c.loop-j in
-    (l.invariant.0, l.invariant.1, one_passed _ _ _ _ l.j l.invariant.2 c.loop-j-test.true (omega (arith, (entry (goal.at.loop-j-preserved-then-e-r c).After-size-e).0, c.if-e-r.true)))
 
 -- the lists are full
+
 pub returns-then-i-room : goal.returns-then-i-room
 returns-then-i-room c =
     let l = c.loop-j in
@@ -54,12 +49,8 @@ returns-then-i-room c =
       stops = inl c.if-i-room.true;
     }
 
-pub value_at-found-requires : goal.value_at-found-requires
-value_at-found-requires c =
-    (c.requires.0.rules, c.requires.0.whole, omega (arith, c.long.ensures, c.loop-j-test.true, c.requires.1.last))
-
 -- the ordinal that was asked for
-ordinal : (c : After-value_at-found) → let a = c.args in
+ordinal : (c : After-value_at) → let a = c.args in
     a.block.ordinal + c.long.result ≡ a.block.ordinal + c.loop-j.j
 ordinal c = omega (arith, c.long.ensures)
 
@@ -73,20 +64,20 @@ returns-in_default c =
       left = λ e. false_true e;
       stops = entry_fails a.bytes.now (column_of a.column) a.b a.block c.requires.1 c.requires.2 (section (goal.at.returns-in_default c).After-size) (id_part_lem (parted (goal.at.returns-in_default c).After-size)) l.r l.j
           l.invariant.2 c.size-e.result (a.block.ordinal + c.long.result) c.loop-j-test.true (entry (goal.at.returns-in_default c).After-size-e).0
-          (entry (goal.at.returns-in_default c).After-size-e).1 (omega (arith, c.if-e-r.false)) (ordinal (goal.at.returns-in_default c).After-value_at-found)
-          (sym c.value_at-found.ensures ∙ ap fetched_of c.in_default.is);
+          (entry (goal.at.returns-in_default c).After-size-e).1 (omega (arith, c.if-e-r.false)) (ordinal (goal.at.returns-in_default c).After-value_at)
+          (sym c.value_at.ensures ∙ ap fetched_of c.in_default.is);
     }
 
 pub loop-j-preserved : goal.loop-j-preserved
 loop-j-preserved c =
     let l = c.loop-j in
     let a = c.args in
-    let w = c.in-Value.value in
-    let e = sym c.value_at-found.ensures ∙ ap fetched_of c.in-Value.is in
+    let w = c.in-Some.value in
+    let e = sym c.value_at.ensures ∙ ap fetched_of c.in-Some.is in
     let fits = value_fits a.bytes.now (column_of a.column) _ w e in
     let part = entry_taken a.bytes.now (column_of a.column) a.b a.block c.requires.1 c.requires.2 (section (goal.at.loop-j-preserved c).After-size) (id_part_lem (parted (goal.at.loop-j-preserved c).After-size)) l.r l.j
     l.invariant.2 c.size-e.result (a.block.ordinal + c.long.result) c.loop-j-test.true (entry (goal.at.loop-j-preserved c).After-size-e).0
-    (entry (goal.at.loop-j-preserved c).After-size-e).1 (omega (arith, c.if-e-r.false)) (ordinal (goal.at.loop-j-preserved c).After-value_at-found) a.room l.i l.ids l.values c.id_of-id.result w _ _ e
+    (entry (goal.at.loop-j-preserved c).After-size-e).1 (omega (arith, c.if-e-r.false)) (ordinal (goal.at.loop-j-preserved c).After-value_at) a.room l.i l.ids l.values c.id_of-id.result w _ _ e
     (omega (arith, l.invariant.0.most, c.if-i-room.false)) c.id_of-id.ensures refl
     (ap (set l.values l.i) (to_z-of_z {w = w64} {z = w} (record { sfits = fits }))) in (
       then l.invariant.0 part,
@@ -112,21 +103,6 @@ room c =
     let h : l.i < c.args.room = omega (arith, l.invariant.0.most, c.if-i-room.false) in
     (omega (arith, h, l.invariant.0.in_ids.kept, n.in_ids), omega (arith, h, l.invariant.0.in_values.kept, n.in_values))
 
-pub overflow_add-after : goal.overflow_add-after
-overflow_add-after c = omega (arith, (parted c).whole)
-
-pub slice_bounds-s-count : goal.slice_bounds-s-count
-slice_bounds-s-count c = omega (arith, (parted c).whole)
-
-pub slice_bounds-s-start : goal.slice_bounds-s-start
-slice_bounds-s-start c = omega (arith, (parted c).whole)
-
-pub slice_bounds-s-end : goal.slice_bounds-s-end
-slice_bounds-s-end c = omega (arith, (parted c).whole)
-
-pub loop-j-init : goal.loop-j-init
-loop-j-init c = (stays _ _ _ _ _ _ _ c.requires.0.upto, omega (arith, c.requires.3), none_passed _ _ _ _)
-
 pub overflow_mul-j : goal.overflow_mul-j
 overflow_mul-j c = omega (arith, c.loop-j-test.true, in_data (goal.at.overflow_mul-j c).After-size)
 
@@ -135,51 +111,3 @@ overflow_add-t c = omega (arith, c.loop-j-test.true, in_data (goal.at.overflow_a
 
 pub short_at-requires : goal.short_at-requires
 short_at-requires c = omega (arith, c.loop-j-test.true, in_data (goal.at.short_at-requires c).After-size)
-
-pub overflow_add-j : goal.overflow_add-j
-overflow_add-j c = omega (arith, c.loop-j-test.true, in_data (goal.at.overflow_add-j c).After-size)
-
-pub loop-j-smaller-then-e-r : goal.loop-j-smaller-then-e-r
-loop-j-smaller-then-e-r c = omega (arith, c.loop-j-test.true)
-
-pub shape_of-ids-then-i-room : goal.shape_of-ids-then-i-room
-shape_of-ids-then-i-room c = c.loop-j.invariant.0.in_ids.kept
-
-pub shape_of-values-then-i-room : goal.shape_of-values-then-i-room
-shape_of-values-then-i-room c = c.loop-j.invariant.0.in_values.kept
-
-pub overflow_add-block : goal.overflow_add-block
-overflow_add-block c = omega (arith, c.long.ensures, c.loop-j-test.true, c.requires.1.last, (head_facts _ c.requires.0.rules).count)
-
-pub shape_of-ids-in_default : goal.shape_of-ids-in_default
-shape_of-ids-in_default c = c.loop-j.invariant.0.in_ids.kept
-
-pub shape_of-values-in_default : goal.shape_of-values-in_default
-shape_of-values-in_default c = c.loop-j.invariant.0.in_values.kept
-
-pub id_of-id-requires : goal.id_of-id-requires
-id_of-id-requires c = (c.requires.1.number, (entry (goal.at.id_of-id-requires c).After-size-e).1)
-
-pub bounds-ids-i : goal.bounds-ids-i
-bounds-ids-i c = (room c).0
-
-pub bounds-values-i : goal.bounds-values-i
-bounds-values-i c = (room c).1
-
-pub overflow_add-i : goal.overflow_add-i
-overflow_add-i c = omega (arith, (room c).0)
-
-pub overflow_add-j-in-loop-j : goal.overflow_add-j-in-loop-j
-overflow_add-j-in-loop-j c = omega (arith, c.loop-j-test.true, in_data (goal.at.overflow_add-j-in-loop-j c).After-size)
-
-pub overflow_add-r : goal.overflow_add-r
-overflow_add-r c = omega (arith, (entry (goal.at.overflow_add-r c).After-size-e).1)
-
-pub loop-j-smaller : goal.loop-j-smaller
-loop-j-smaller c = omega (arith, c.loop-j-test.true)
-
-pub shape_of-ids : goal.shape_of-ids
-shape_of-ids c = c.loop-j.invariant.0.in_ids.kept
-
-pub shape_of-values : goal.shape_of-values
-shape_of-values c = c.loop-j.invariant.0.in_values.kept

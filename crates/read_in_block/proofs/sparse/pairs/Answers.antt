@@ -1,12 +1,10 @@
 -- `read_in_block::sparse::pairs` meets its contract. Invariant: the part up to place r, and the entries before j are below it. Assumes nothing.
-use Rattle.format.specs.Kit.{◌≡◌, refl, ap, ◌∙◌, inl, inr, List, ℕ, ◌+◌, ◌-◌, ◌*◌, ◌≤◌, ◌<◌, arith, rules, length, take, drop, eqb-true, leb-true}
+use Rattle.format.specs.Kit.{◌≡◌, refl, ap, ◌∙◌, inl, inr, List, ℕ, ◌+◌, ◌-◌, ◌*◌, ◌≤◌, ◌<◌, arith, length, take, drop, eqb-true, leb-true}
 use Rattle.format.specs.Opening.{value_of}
-use Rattle.laws.proofs.Rules.{head_facts}
 use Rattle.column.specs.Opened.{column_of}
 use Rattle.lookup.proofs.Whole.{Parted, id_part_lem}
 use Rattle.next_in_block.specs.First.{entry_in}
-use Rattle.next_in_block.proofs.Entries.{one_passed}
-use Rattle.read_in_block.proofs.Parts.{stays, passes, then}
+use Rattle.read_in_block.proofs.Parts.{passes, then}
 use Rattle.read_in_block.specs.Rows.{Rising}
 use Rattle.read_in_block.proofs.Entries.{sparse_data, sparse_end}
 use Rattle.read_in_block.proofs.Rows.{entries_below, entries_part}
@@ -37,9 +35,6 @@ in_data c =
     let a = c.args in
     sparse_data a.bytes.now (column_of a.column) a.b a.block c.requires.1 c.requires.2 _ (id_part_lem (parted c))
 
-pub loop-j-init : goal.loop-j-init
-loop-j-init c = (stays _ _ _ _ _ _ _ c.requires.0.upto, omega (arith, c.requires.3), c.first_entry-j.ensures.passed)
-
 pub returns-then-i-room : goal.returns-then-i-room
 returns-then-i-room c =
     let l = c.loop-j in
@@ -60,12 +55,6 @@ returns-then-i-room c =
     }
 
 -- an entry that is below the place
-pub loop-j-preserved-then-k-j : goal.loop-j-preserved-then-k-j
-loop-j-preserved-then-k-j c =
-    let l = c.loop-j in
-    let f = c.rising-k.ensures.none c.if-k-j.true
-    (omega (arith, c.smaller.ensures, c.loop-j-test.true, c.if-i-room.false, l.invariant.0.most)) in
-    (l.invariant.0, l.invariant.1, one_passed _ _ _ _ l.j l.invariant.2 c.loop-j-test.true f)
 
 -- ---- entries that rise
 -- how many values there are, and how many were asked for
@@ -77,7 +66,7 @@ within c =
     let l = c.loop-j in
     let a = c.args in
     let k : ℕ = c.rising-k.result in
-    let m = c.smaller.ensures in
+    let m = c.min.ensures in
     let v = c.rising-k.ensures in
     let d = drawn_most (value_of a.bytes.now (column_of a.column)) (l.i + (k - l.j) - l.i) (a.block.ordinal + c.long.result) in (
       omega (arith, c.draw-n.ensures.0),
@@ -95,23 +84,6 @@ risen c =
     let k : ℕ = c.rising-k.result in
     let e : l.i + (k - l.j) - l.i ≡ k - l.j = omega arith in
     rw e c.rising-k.ensures.rises
-
-pub overflow_add-x : goal.overflow_add-x
-overflow_add-x c =
-    omega (arith, c.requires.1.last, (head_facts _ c.requires.0.rules).count, c.long.ensures, c.loop-j-test.true)
-
-pub draw-n-requires : goal.draw-n-requires
-draw-n-requires c =
-    let n = c.requires.0 in
-    let l = c.loop-j in
-    let v = c.rising-k.ensures in
-    let m = c.smaller.ensures in (
-      n.rules,
-      n.whole,
-      omega (arith, c.requires.1.last, c.long.ensures, v.most, v.from, m, c.loop-j-test.true),
-      omega arith,
-      omega (arith, v.most, v.from, m, l.invariant.0.most, l.invariant.0.in_values.kept, n.in_values),
-    )
 
 pub put_entries-y-requires : goal.put_entries-y-requires
 put_entries-y-requires c =
@@ -171,18 +143,6 @@ returns c =
     (omega (arith, c.loop-j-test.false)) l.invariant.1 in
     record { reads = then l.invariant.0 (passes _ _ _ _ _ _ _ _ l.invariant.0.most w); place = omega arith; left = λ z. false_true z; stops = inr refl }
 
-pub overflow_add-after : goal.overflow_add-after
-overflow_add-after c = omega (arith, (parted c).whole)
-
-pub slice_bounds-s-count : goal.slice_bounds-s-count
-slice_bounds-s-count c = omega (arith, (parted c).whole)
-
-pub slice_bounds-s-start : goal.slice_bounds-s-start
-slice_bounds-s-start c = omega (arith, (parted c).whole)
-
-pub slice_bounds-s-end : goal.slice_bounds-s-end
-slice_bounds-s-end c = omega (arith, (parted c).whole)
-
 pub first_entry-j-requires : goal.first_entry-j-requires
 first_entry-j-requires c = in_data (goal.at.first_entry-j-requires c).After-size
 
@@ -195,59 +155,9 @@ overflow_add-t c = omega (arith, c.loop-j-test.true, in_data (goal.at.overflow_a
 pub short_at-requires : goal.short_at-requires
 short_at-requires c = omega (arith, c.loop-j-test.true, in_data (goal.at.short_at-requires c).After-size)
 
-pub shape_of-ids-then-i-room : goal.shape_of-ids-then-i-room
-shape_of-ids-then-i-room c = c.loop-j.invariant.0.in_ids.kept
-
-pub shape_of-values-then-i-room : goal.shape_of-values-then-i-room
-shape_of-values-then-i-room c = c.loop-j.invariant.0.in_values.kept
-
-pub overflow_sub-count : goal.overflow_sub-count
-overflow_sub-count c = omega (arith, c.loop-j-test.true)
-
-pub overflow_sub-room : goal.overflow_sub-room
-overflow_sub-room c = omega (arith, c.loop-j.invariant.0.most)
-
-pub overflow_add-j : goal.overflow_add-j
-overflow_add-j c = omega (arith, c.smaller.ensures, c.loop-j-test.true, in_data (goal.at.overflow_add-j c).After-size)
-
 pub rising-k-requires : goal.rising-k-requires
 rising-k-requires c = (
   omega arith,
   omega
-      (arith, c.smaller.ensures, c.loop-j-test.true, in_data (goal.at.rising-k-requires c).After-size),
+      (arith, c.min.ensures, c.loop-j-test.true, in_data (goal.at.rising-k-requires c).After-size),
 )
-
-pub overflow_add-j-then-k-j : goal.overflow_add-j-then-k-j
-overflow_add-j-then-k-j c = omega (arith, c.loop-j-test.true, in_data (goal.at.overflow_add-j-then-k-j c).After-size)
-
-pub loop-j-smaller-then-k-j : goal.loop-j-smaller-then-k-j
-loop-j-smaller-then-k-j c = omega (arith, c.loop-j-test.true)
-
-pub overflow_sub-end : goal.overflow_sub-end
-overflow_sub-end c = omega (arith, c.rising-k.ensures.from)
-
-pub overflow_add-end : goal.overflow_add-end
-overflow_add-end c = let l = c.loop-j in
-    omega (arith, c.rising-k.ensures.from, c.rising-k.ensures.most, c.smaller.ensures, l.invariant.0.most)
-
-pub shape_of-ids-then-n-end : goal.shape_of-ids-then-n-end
-shape_of-ids-then-n-end c = c.put_entries-y.auto.ids
-    ∙ c.loop-j.invariant.0.in_ids.kept
-
-pub shape_of-values-then-n-end : goal.shape_of-values-then-n-end
-shape_of-values-then-n-end c = c.draw-n.auto.values
-    ∙ c.loop-j.invariant.0.in_values.kept
-
-pub loop-j-smaller : goal.loop-j-smaller
-loop-j-smaller c = omega (
-  arith,
-  c.rising-k.ensures.from,
-  c.if-k-j.false,
-  c.loop-j-test.true,
-)
-
-pub shape_of-ids : goal.shape_of-ids
-shape_of-ids c = c.loop-j.invariant.0.in_ids.kept
-
-pub shape_of-values : goal.shape_of-values
-shape_of-values c = c.loop-j.invariant.0.in_values.kept

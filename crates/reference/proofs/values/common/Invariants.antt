@@ -1,8 +1,5 @@
 use Rattle.reference.proofs.values.common.Given as goal
 
--- `reference::values::common` is safe and ends.
-abbrev pub invariant-loop-y : goal.invariant-loop-y
-invariant-loop-y l = Unit {0}
-
+-- A remainder is below what it was divided by.
 abbrev pub decreases-loop-y : goal.decreases-loop-y
 decreases-loop-y l = l.y

@@ -1,4 +1,4 @@
-use Rattle.format.specs.Kit.{◌≡◌, ◌&&◌, ◌+◌, ◌-◌, ◌*◌, ◌≤◌, drop}
+use Rattle.format.specs.Kit.{◌≡◌, ◌&&◌, ◌+◌, ◌-◌, ◌*◌, drop}
 use Rattle.format.specs.Orders.{fixed_at, numbers_in}
 use Rattle.format.specs.Pairs.{asc_from}
 use Rattle.answers.specs.Replies.{order_of}
@@ -8,8 +8,5 @@ use Rattle.section_check.proofs.block.ascending.Given as goal
 abbrev pub invariant-loop-i : goal.invariant-loop-i
 invariant-loop-i l =
     let ord = order_of l.order in
-    (1 ≤ l.i) × (asc_from 0 (numbers_in ord 2 l.c (drop l.t l.s))
-    ≡ (l.right && asc_from (fixed_at ord 2 l.s (l.t + 2 * (l.i - 1)) + 1) (numbers_in ord 2 (l.c - l.i) (drop (l.t + 2 * l.i) l.s))))
-
-abbrev pub decreases-loop-i : goal.decreases-loop-i
-decreases-loop-i l = l.c - l.i
+    asc_from 0 (numbers_in ord 2 l.c (drop l.t l.s))
+    ≡ (l.right && asc_from (fixed_at ord 2 l.s (l.t + 2 * (l.i - 1)) + 1) (numbers_in ord 2 (l.c - l.i) (drop (l.t + 2 * l.i) l.s)))

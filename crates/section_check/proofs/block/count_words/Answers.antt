@@ -1,5 +1,5 @@
 -- `section_check::block::count_words` meets its contract. The loop's invariant: the sum is the ones of the strides passed, and what was found
-use Rattle.format.specs.Kit.{◌≡◌, sym, ap, ap₂, ◌∙◌, ℕ, ◌+◌, ◌-◌, ◌*◌, ◌^◌, ◌≤◌, zero-mul, add-zero, arith}
+use Rattle.format.specs.Kit.{◌≡◌, refl, sym, ap, ap₂, ◌∙◌, ℕ, ◌+◌, ◌-◌, ◌*◌, ◌^◌, ◌≤◌, zero-mul, add-zero, arith}
 use Rattle.format.specs.Ids.{rank_bytes}
 use Rattle.format.specs.LookUp.{ones_from}
 use Rattle.laws.proofs.Sizes.{ranks_none, stride_fits, stride_next}
@@ -22,7 +22,6 @@ loop-j-init c =
       sym (ones_none a.s.now _ 0),
       sym (zero-mul (2 ^ (a.p - 6))),
       omega arith,
-      omega arith,
     )
 
 -- the stride ahead is in the block
@@ -39,16 +38,11 @@ stride_ones-sum-requires c =
 pub loop-j-preserved : goal.loop-j-preserved
 loop-j-preserved c =
     let a = c.args in
-    let i = c.loop-j.invariant in
-    let e =
-    ranks_turn _ a.p a.s.now a.t _ c.loop-j.j c.loop-j.right c.loop-j-test.true c.still-right.ensures
-    c.rank_at.ensures.0
-    (ones_moved a.s.now _ _ _ _ i.1 i.2) in (
-      e ∙ i.0,
+    let i = c.loop-j.invariant in (
+      ranks_turn _ a.p a.s.now a.t _ c.loop-j.j c.loop-j.right (omega arith) refl c.rank_at.ensures.0 (ones_moved a.s.now _ _ _ _ i.1 i.2) ∙ i.0,
       ap₂ ◌+◌ i.1 c.stride_ones-sum.ensures.0 ∙ sym (ones_grow a.s.now _ c.loop-j.first _)
           ∙ ap (λ (x : ℕ). ones_from a.s.now (a.t + c.rank_bytes-b.result) (c.loop-j.first + x) 0) (sym c.stride-w.ensures.0),
       ap₂ ◌+◌ i.2 c.stride-w.ensures.0 ∙ stride_next c.loop-j.j (2 ^ (a.p - 6)),
-      omega arith,
       omega arith,
     )
 
@@ -57,22 +51,7 @@ returns c =
     let a = c.args in
     let i = c.loop-j.invariant in
     let all : c.loop-j.first ≡ 1024 =
-    i.2 ∙ strides_all a.p c.loop-j.j c.requires.0 c.if-p-eq0.false (omega (arith, c.loop-j-test.false)) in (
+    i.2 ∙ strides_all a.p c.loop-j.j c.requires.0 c.if-p-eq0.false (omega arith) in (
       i.1 ∙ ap₂ (λ (x y : ℕ). ones_from a.s.now x y 0) (ap (λ (x : ℕ). a.t + x) c.rank_bytes-b.ensures.0) all,
-      sym (ranks_last _ a.p a.s.now a.t _ c.loop-j.j c.loop-j.right c.loop-j-test.false) ∙ i.0,
+      sym (ranks_last _ a.p a.s.now a.t _ c.loop-j.j c.loop-j.right (omega arith)) ∙ i.0,
     )
-
-pub ones_from-ones-requires : goal.ones_from-ones-requires
-ones_from-ones-requires c = (omega (arith, c.requires.1), omega arith)
-
-pub rank_bytes-b-requires : goal.rank_bytes-b-requires
-rank_bytes-b-requires c = c.requires.0
-
-pub stride-w-requires : goal.stride-w-requires
-stride-w-requires c = let q = c.requires.0 in (omega (arith, q.least c.if-p-eq0.false), omega arith)
-
-pub overflow_add-sum : goal.overflow_add-sum
-overflow_add-sum c = let f = fits (goal.at.overflow_add-sum c).In-loop-j in omega arith
-
-pub overflow_add-first : goal.overflow_add-first
-overflow_add-first c = let f = fits (goal.at.overflow_add-first c).In-loop-j in omega arith

@@ -9,7 +9,4 @@ use Rattle.section_check.proofs.block.count_words.Given as goal
 abbrev pub invariant-loop-j : goal.invariant-loop-j
 invariant-loop-j l =
     (l.right && ranks_from (l.n - l.j) l.p l.s l.t l.m l.j ≡ ranks_from (rank_bytes l.p / 2) l.p l.s l.t (l.t + rank_bytes l.p) 0) × (l.sum ≡ ones_from l.s l.m l.first 0)
-    × (l.first ≡ l.j * 2 ^ (l.p - 6)) × (l.sum ≤ 64 * l.first) × (l.j ≤ l.n)
-
-abbrev pub decreases-loop-j : goal.decreases-loop-j
-decreases-loop-j l = l.n - l.j
+    × (l.first ≡ l.j * 2 ^ (l.p - 6)) × (l.sum ≤ 64 * l.first)
