@@ -8,6 +8,7 @@ ghost use Rattle.answers.specs.Words.{answer_words, layered_words, part_words, l
 ghost use Rattle.layered.specs.Answers.{layer_of, part_of, layered_reply_of, layered_readout_of};
 ghost use Rattle.boundary.specs.Kinds.{Apart};
 
+use super::refused;
 use answers::{Readout, Refusal};
 use layered::{Layer, LayerRefusal, LayeredWords, Part};
 
@@ -62,7 +63,7 @@ pub fn put_layered_page(out: &mut [u64; 4], reply: Result<LayeredWords, Refusal>
             *out = [0, n as u64, machine_words, correction_words];
         }
         Err(why) => {
-            *out = [why.number(), why.number_with(), 0, 0];
+            *out = refused(why);
         }
     }
 }

@@ -4,8 +4,8 @@
 // of pairs in pairs.rt, of a range of values in ranges.rt, of a bare id section in sections.rt, of sets in sets.rt.
 #![tactic(auto)]
 
-ghost use Rattle.std.specs.Prelude.{◌≡◌};
-ghost use Rattle.answers.specs.Replies.{reply_of, candidate_of};
+ghost use Rattle.std.specs.Prelude.{◌≡◌, ◌-◌, ◌≤◌, ◌∷◌, replicate};
+ghost use Rattle.answers.specs.Replies.{refusal_number, refusal_with, reply_of, candidate_of};
 ghost use Rattle.answers.specs.Words.{reply_words, column_words, opened_in, candidate_words};
 ghost use Rattle.column.specs.Opened.{column_of, opened_of};
 
@@ -21,6 +21,17 @@ pub mod ranges;
 pub mod sections;
 pub mod sets;
 
+// The words of a call that is refused: the refusal's number, the number with it, and 0 in the rest.
+fn refused<const N: usize>(why: Refusal) -> [u64; N]
+    requires { 2 ≤ N }
+    ensures { result ≡ refusal_number why ∷ refusal_with why ∷ replicate (N - 2) 0 }
+{
+    let mut words = [0u64; N];
+    words[0] = why.number();
+    words[1] = why.number_with();
+    words
+}
+
 // signalfern_reply
 pub fn put_reply(out: &mut [u64; 2], reply: Result<u64, Refusal>)
     ensures { out.new ≡ reply_words (reply_of reply) }
@@ -30,7 +41,7 @@ pub fn put_reply(out: &mut [u64; 2], reply: Result<u64, Refusal>)
             *out = [0, n];
         }
         Err(why) => {
-            *out = [why.number(), why.number_with()];
+            *out = refused(why);
         }
     }
 }
@@ -60,20 +71,7 @@ pub fn put_column(out: &mut [u64; 12], opened: Result<Column, Refusal>)
             ];
         }
         Err(why) => {
-            *out = [
-                why.number(),
-                why.number_with(),
-                0,
-                0,
-                0,
-                0,
-                0,
-                0,
-                0,
-                0,
-                0,
-                0,
-            ];
+            *out = refused(why);
         }
     }
 }

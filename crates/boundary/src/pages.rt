@@ -3,6 +3,7 @@ ghost use Rattle.std.specs.Prelude.{◌≡◌};
 ghost use Rattle.answers.specs.Replies.{reply_of};
 ghost use Rattle.answers.specs.Words.{page_words};
 
+use super::refused;
 use answers::Refusal;
 
 // signalfern_page, for so many ids.
@@ -14,7 +15,7 @@ pub fn put_page(out: &mut [u64; 3], reply: Result<u64, Refusal>, n: usize)
             *out = [0, n as u64, words];
         }
         Err(why) => {
-            *out = [why.number(), why.number_with(), 0];
+            *out = refused(why);
         }
     }
 }

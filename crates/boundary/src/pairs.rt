@@ -3,6 +3,7 @@ ghost use Rattle.std.specs.Prelude.{◌≡◌};
 ghost use Rattle.answers.specs.Replies.{candidate_of, readout_of};
 ghost use Rattle.answers.specs.Words.{pair_words, readout_words};
 
+use super::refused;
 use answers::{ABSENT, FOUND, Pair, Readout, Refusal};
 
 // signalfern_readout
@@ -17,7 +18,7 @@ pub fn put_readout(out: &mut [u64; 3], readout: Result<Readout, Refusal>)
             *out = [1, 0, n];
         }
         Err(why) => {
-            *out = [why.number(), why.number_with(), 0];
+            *out = refused(why);
         }
     }
 }
@@ -34,7 +35,7 @@ pub fn put_pair(out: &mut [u64; 5], pair: Result<Option<Pair>, Refusal>)
             *out = [ABSENT, 0, 0, 0, 0];
         }
         Err(why) => {
-            *out = [why.number(), why.number_with(), 0, 0, 0];
+            *out = refused(why);
         }
     }
 }

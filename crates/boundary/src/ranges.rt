@@ -3,6 +3,7 @@ ghost use Rattle.std.specs.Prelude.{◌≡◌};
 ghost use Rattle.answers.specs.Replies.{between_of};
 ghost use Rattle.answers.specs.Words.{between_words};
 
+use super::refused;
 use answers::{ABSENT, FOUND, Refusal};
 
 // signalfern_between
@@ -17,7 +18,7 @@ pub fn put_between(out: &mut [u64; 3], between: Result<Option<u64>, Refusal>)
             *out = [ABSENT, 0, 0];
         }
         Err(why) => {
-            *out = [why.number(), why.number_with(), 0];
+            *out = refused(why);
         }
     }
 }

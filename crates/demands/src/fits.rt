@@ -7,7 +7,7 @@ fn look_at(_value: i64) {}
 pub fn each_fits(values: &[i64])
     ensures { Each Fits values.now }
 {
-    for i in 0..values.len() {
-        look_at(values[i]);
+    for v in values {
+        look_at(*v);
     }
 }

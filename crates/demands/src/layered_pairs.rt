@@ -80,6 +80,7 @@ pub fn open_then_read_layered_from(
 {
     let below = Column::open(machine);
     let above = Column::open(correction);
+    // `?` would answer a `Refusal`, and the answer here is a `LayerRefusal`, which names the column.
     match below {
         Err(why) => Err(LayerRefusal {
             layer: layered::Layer::Machine,

@@ -80,7 +80,7 @@ pub fn read(bytes: &[u8], ids: &mut [u32], values: &mut [i64]) -> Result<u64, Re
 }
 
 // What the check and the reading answered.
-#[derive(Clone, Copy)]
+#[derive(Clone, Copy, Debug, PartialEq, Eq)]
 pub struct Back {
     pub checked: Result<u64, Refusal>,
     pub read: Result<u64, Refusal>,
@@ -104,7 +104,7 @@ pub fn check_then_read(bytes: &[u8], ids: &mut [u32], values: &mut [i64]) -> Bac
 }
 
 // What three calls answered; where the writer refused, that.
-#[derive(Clone, Copy)]
+#[derive(Clone, Copy, Debug, PartialEq, Eq)]
 pub struct Trip {
     pub wrote: Result<u64, Refusal>,
     pub checked: Result<u64, Refusal>,
@@ -194,7 +194,7 @@ pub fn look_up(bytes: &[u8], id: u32) -> Result<Look, Refusal>
 }
 
 // What the check, the look-up in the bytes and that in the opened column answered.
-#[derive(Clone, Copy)]
+#[derive(Clone, Copy, Debug, PartialEq, Eq)]
 pub struct Looked {
     pub checked: Result<u64, Refusal>,
     pub direct: Result<Look, Refusal>,

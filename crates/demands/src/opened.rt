@@ -82,6 +82,7 @@ pub fn open_then_look_up(bytes: &[u8], id: u32) -> Result<Look, Refusal>
 pub fn open_then_next(cursor: Cursor, bytes: &[u8], target: u32) -> Next
     ensures { (n : ℕ) (x : Holds bytes.now n) → NextAnswers x cursor.last target result }
 {
+    // `?` would answer a `Refusal`, and the answer here is a `Next`, which keeps the cursor.
     match Column::open(bytes) {
         Err(why) => Next {
             cursor,
@@ -109,6 +110,7 @@ pub fn open_then_look_up_layered(
 {
     let below = Column::open(machine);
     let above = Column::open(correction);
+    // `?` would answer a `Refusal`, and the answer here is a `LayerRefusal`, which names the column.
     match below {
         Err(why) => Err(LayerRefusal {
             layer: Layer::Machine,

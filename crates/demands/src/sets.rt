@@ -42,7 +42,7 @@ pub fn set_find(bytes: &[u8], id: u32) -> Result<Option<u64>, Refusal>
 }
 
 // What three calls answered; where the writer refused, that.
-#[derive(Clone, Copy)]
+#[derive(Clone, Copy, Debug, PartialEq, Eq)]
 pub struct SetTrip {
     pub wrote: Result<u64, Refusal>,
     pub checked: Result<u64, Refusal>,
@@ -75,7 +75,7 @@ pub fn write_then_find(ids: &[u32], out: &mut [u8], id: u32) -> SetTrip
 }
 
 // What a look-up in a column and membership in a set answered.
-#[derive(Clone, Copy)]
+#[derive(Clone, Copy, Debug, PartialEq, Eq)]
 pub struct Both {
     pub answer: Result<answers::Look, Refusal>,
     pub member: Result<Option<u64>, Refusal>,

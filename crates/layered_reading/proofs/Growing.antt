@@ -1,76 +1,37 @@
 -- A run in the lists grows by one pair or by four; and the target after it. Assumes nothing.
-use Rattle.format.specs.Kit.{◌≡◌, refl, sym, ap, ◌∙◌, List, [], ◌∷◌, ◌++◌, ℕ, zero, suc, ◌+◌, ◌-◌, ◌≤◌, ◌<◌, add-one, min, arith, ℤ, pos, length, get_or, set, sets}
-use Rattle.format.specs.Kit.{take, drop, take-add, drop-cons, get_or-drop, length-drop, length-take-le, length-sets, replicate, length-replicate}
+use Rattle.format.specs.Kit.{◌≡◌, refl, sym, ap, ◌∙◌, List, ◌++◌, ℕ, suc, ◌+◌, ◌-◌, ◌≤◌, ◌<◌, add-one, min, arith, ℤ, pos, length, get_or, set, sets}
+use Rattle.format.specs.Kit.{take, drop, take-add, drop-cons, drop-drop, length-drop, length-take-le, length-sets, replicate, length-replicate}
+use Rattle.std.proofs.lemmas.List.{replicate-append-replicate}
 use Rattle.laws.proofs.Cases.{below_or}
-use Rattle.laws.proofs.Stores.{sets_append}
-use Rattle.layered_reading.specs.Runs.{set_four, Put, RunRoom, RunTo, run_target}
+use Rattle.laws.proofs.Stores.{sets_then}
+use Rattle.layered_reading.specs.Runs.{Put, RunRoom, RunTo, run_target}
 
--- ---- one more at the end
+-- ---- more at the end
 
-at_end : {A : Type 0} (l : List A) (i : ℕ) (xs : List A) (n : ℕ) (x : A) → length xs ≡ n → sets l i (xs ++ (x ∷ [])) ≡ set (sets l i xs) (i + n) x
-at_end l i xs n x e = sets_append l i xs (x ∷ []) ∙ ap (λ (k : ℕ). set (sets l i xs) (i + k) x) e
-
-module _ {A : Type 0} (l : List A) (i : ℕ) (s : List A) (m : ℕ) (d : A) where
+module _ {A : Type 0} (l : List A) (i : ℕ) (s : List A) (m : ℕ) where
   abbrev up_to : ℕ → List A
   up_to k = sets l i (take (k - m) (drop m s))
 
-  one : (k : ℕ) → m ≤ k → k < length s → up_to (k + 1) ≡ set (up_to k) (i + (k - m)) (get_or s k d)
-  one k h b =
-      let e : k + 1 - m ≡ (k - m) + 1 = omega arith in
+  more : (n k : ℕ) → m ≤ k → k ≤ length s → up_to (k + n) ≡ sets (up_to k) (i + (k - m)) (take n (drop k s))
+  more n k h b =
+      let e : k + n - m ≡ (k - m) + n = omega arith in
       let z : m + (k - m) ≡ k = omega arith in
-      let g : get_or (drop m s) (k - m) d ≡ get_or s k d = get_or-drop m s (k - m) d ∙ ap (λ (j : ℕ). get_or s j d) z in
-      let n : k - m < length (drop m s) = omega (arith, length-drop m s) in
       ap (λ (j : ℕ). sets l i (take j (drop m s))) e
-      ∙ ap (sets l i) (take-add (k - m) 1 (drop m s) ∙ ap (λ (r : List A). take (k - m) (drop m s) ++ take 1 r) (drop-cons (drop m s) (k - m) d n))
-      ∙ at_end l i (take (k - m) (drop m s)) (k - m) (get_or (drop m s) (k - m) d) (length-take-le (k - m) (drop m s) (omega arith))
-      ∙ ap (set (up_to k) (i + (k - m))) g
+      ∙ ap (sets l i) (take-add (k - m) n (drop m s) ∙ ap (λ (r : List A). take (k - m) (drop m s) ++ take n r) (drop-drop (k - m) m s ∙ ap (λ (j : ℕ). drop j s) z))
+      ∙ sets_then l i (i + (k - m)) (take (k - m) (drop m s)) (take n (drop k s))
+      (ap (λ (j : ℕ). i + j) (length-take-le (k - m) (drop m s) (omega (arith, length-drop m s))))
 
-  four : (k : ℕ) → m ≤ k → k + 4 ≤ length s
-      → up_to (k + 4) ≡ set_four (up_to k) (i + (k - m)) (get_or s k d) (get_or s (k + 1) d) (get_or s (k + 2) d) (get_or s (k + 3) d)
-  four k h b =
-      let a = one k h (omega arith) in
-      let b1 = one (k + 1) (omega arith) (omega arith) in
-      let c1 = one (k + 2) (omega arith) (omega arith) in
-      let d1 = one (k + 3) (omega arith) (omega arith) in
-      let k2 : k + 1 + 1 ≡ k + 2 = omega arith in
-      let k3 : k + 2 + 1 ≡ k + 3 = omega arith in
-      let k4 : k + 3 + 1 ≡ k + 4 = omega arith in
-      let i1 : i + (k + 1 - m) ≡ i + (k - m) + 1 = omega arith in
-      let i2 : i + (k + 2 - m) ≡ i + (k - m) + 2 = omega arith in
-      let i3 : i + (k + 3 - m) ≡ i + (k - m) + 3 = omega arith in
-      let b2 = rw (k2, i1, a) at b1 in
-      let c2 = rw (k3, i2, b2) at c1 in
-      rw (k4, i3, c2) at d1
+  one : (k : ℕ) (d : A) → m ≤ k → k < length s → up_to (k + 1) ≡ set (up_to k) (i + (k - m)) (get_or s k d)
+  one k d h b = more 1 k h (omega arith) ∙ ap (λ (r : List A). sets (up_to k) (i + (k - m)) (take 1 r)) (drop-cons s k d b)
 
--- ---- the same element again and again
-
-replicate_end : {A : Type 0} (n : ℕ) (x : A) → replicate (suc n) x ≡ replicate n x ++ (x ∷ [])
-replicate_end zero x = refl
-replicate_end (suc n) x = ap (λ l. x ∷ l) (replicate_end n x)
-
+-- the same element again and again
 module _ {A : Type 0} (l : List A) (i m : ℕ) (x : A) where
-  one_same : (k : ℕ) → m ≤ k → sets l i (replicate (k + 1 - m) x) ≡ set (sets l i (replicate (k - m) x)) (i + (k - m)) x
-  one_same k h =
-      let e : k + 1 - m ≡ suc (k - m) = omega arith in
+  more_same : (n k : ℕ) → m ≤ k → sets l i (replicate (k + n - m) x) ≡ sets (sets l i (replicate (k - m) x)) (i + (k - m)) (replicate n x)
+  more_same n k h =
+      let e : k + n - m ≡ (k - m) + n = omega arith in
       ap (λ (j : ℕ). sets l i (replicate j x)) e
-      ∙ ap (sets l i) (replicate_end (k - m) x)
-      ∙ at_end l i (replicate (k - m) x) (k - m) x (length-replicate (k - m) x)
-
-  four_same : (k : ℕ) → m ≤ k → sets l i (replicate (k + 4 - m) x) ≡ set_four (sets l i (replicate (k - m) x)) (i + (k - m)) x x x x
-  four_same k h =
-      let a = one_same k h in
-      let b1 = one_same (k + 1) (omega arith) in
-      let c1 = one_same (k + 2) (omega arith) in
-      let d1 = one_same (k + 3) (omega arith) in
-      let k2 : k + 1 + 1 ≡ k + 2 = omega arith in
-      let k3 : k + 2 + 1 ≡ k + 3 = omega arith in
-      let k4 : k + 3 + 1 ≡ k + 4 = omega arith in
-      let i1 : i + (k + 1 - m) ≡ i + (k - m) + 1 = omega arith in
-      let i2 : i + (k + 2 - m) ≡ i + (k - m) + 2 = omega arith in
-      let i3 : i + (k + 3 - m) ≡ i + (k - m) + 3 = omega arith in
-      let b2 = rw (k2, i1, a) at b1 in
-      let c2 = rw (k3, i2, b2) at c1 in
-      rw (k4, i3, c2) at d1
+      ∙ ap (sets l i) (sym (replicate-append-replicate (k - m) n x))
+      ∙ sets_then l i (i + (k - m)) (replicate (k - m) x) (replicate n x) (ap (λ (j : ℕ). i + j) (length-replicate (k - m) x))
 
 -- ---- a run
 
@@ -106,24 +67,23 @@ module _ {i m end id : ℕ} {mi : List ℕ} {mv : List ℤ} {ids₀ : List ℕ} 
             from = omega (arith, g.from);
             upto = omega arith;
             below = λ n. rw z l;
-            in_ids = q.in_ids ∙ rw (ep, g.in_ids) (sym (one ids₀ i mi m 0 k g.from (omega (arith, r.in_buffer))));
-            in_values = q.in_values ∙ rw (ep, g.in_values) (sym (one vs₀ i mv m (pos 0) k g.from (omega (arith, r.in_buffer_values))));
-            in_columns = q.in_columns ∙ rw (ep, g.in_columns) (sym (one_same cs₀ i m 0 k g.from));
+            in_ids = q.in_ids ∙ rw (ep, g.in_ids) (sym (one ids₀ i mi m k 0 g.from (omega (arith, r.in_buffer))));
+            in_values = q.in_values ∙ rw (ep, g.in_values) (sym (one vs₀ i mv m k (pos 0) g.from (omega (arith, r.in_buffer_values))));
+            in_columns = q.in_columns ∙ rw (ep, g.in_columns) (sym (more_same cs₀ i m 0 1 k g.from));
           }
 
       pub run_four : k + 4 ≤ end → get_or mi (k + 3) 0 < id
-          → ids' ≡ set_four ids p (get_or mi k 0) (get_or mi (k + 1) 0) (get_or mi (k + 2) 0) (get_or mi (k + 3) 0)
-          → vs' ≡ set_four vs p (get_or mv k (pos 0)) (get_or mv (k + 1) (pos 0)) (get_or mv (k + 2) (pos 0)) (get_or mv (k + 3) (pos 0))
-          → cs' ≡ set_four cs p 0 0 0 0 → RunTo i m end id (k + 4) mi mv ids₀ ids' vs₀ vs' cs₀ cs'
+          → ids' ≡ sets ids p (take 4 (drop k mi)) → vs' ≡ sets vs p (take 4 (drop k mv)) → cs' ≡ sets cs p (replicate 4 0)
+          → RunTo i m end id (k + 4) mi mv ids₀ ids' vs₀ vs' cs₀ cs'
       run_four h l ei ev ec =
           let z : k + 4 - 1 ≡ k + 3 = omega arith in
           record {
             from = omega (arith, g.from);
             upto = h;
             below = λ n. rw z l;
-            in_ids = ei ∙ rw (ep, g.in_ids) (sym (four ids₀ i mi m 0 k g.from (omega (arith, r.in_buffer))));
-            in_values = ev ∙ rw (ep, g.in_values) (sym (four vs₀ i mv m (pos 0) k g.from (omega (arith, r.in_buffer_values))));
-            in_columns = ec ∙ rw (ep, g.in_columns) (sym (four_same cs₀ i m 0 k g.from));
+            in_ids = ei ∙ rw (ep, g.in_ids) (sym (more ids₀ i mi m 4 k g.from (omega (arith, r.in_buffer))));
+            in_values = ev ∙ rw (ep, g.in_values) (sym (more vs₀ i mv m 4 k g.from (omega (arith, r.in_buffer_values))));
+            in_columns = ec ∙ rw (ep, g.in_columns) (sym (more_same cs₀ i m 0 4 k g.from));
           }
 
 -- ---- the target

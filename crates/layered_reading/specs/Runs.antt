@@ -3,10 +3,6 @@
 use Rattle.std.specs.Prelude.{◌+◌, ◌-◌, ◌≤◌, ◌<◌, ◌≡◌}
 use Rattle.format.specs.Kit.{ℕ, zero, suc, List, ℤ, length, get_or, set, sets, take, drop, replicate}
 
--- four elements in a row, from place i on
-abbrev pub set_four : {A : Type 0} → List A → ℕ → A → A → A → A → List A
-set_four l i a b c d = set (set (set (set l i a) (i + 1) b) (i + 2) c) (i + 3) d
-
 -- a pair in place i
 pub record Put (i id : ℕ) (v : ℤ) (column : ℕ) (ids ids' : List ℕ) (vs vs' : List ℤ) (cs cs' : List ℕ) : Type 0 where
   pub in_ids : ids' ≡ set ids i id

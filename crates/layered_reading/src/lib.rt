@@ -224,9 +224,7 @@ fn mark(columns: &mut [u8], i: usize, end: usize, column: u8)
     requires { (i ≤ end) × (end ≤ length columns.old) }
     ensures { columns.new ≡ sets columns.old i (replicate (end - i) column) }
 {
-    for j in i..end {
-        columns[j] = column;
-    }
+    columns[i..end].fill(column);
 }
 
 fn number_of(layer: Layer) -> u8

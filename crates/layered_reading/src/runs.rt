@@ -1,6 +1,7 @@
 // A run of the machine column's pairs that are below the correction's next id, copied from its buffer into the lent lists: four at a time, then one by one.
-ghost use Rattle.std.specs.Prelude.{◌≡◌, ◌+◌, ◌-◌, ◌≤◌, ◌<◌, length, get_or, pos};
-ghost use Rattle.layered_reading.specs.Runs.{set_four, RunRoom, RunTo, run_target, Put};
+ghost use Rattle.std.specs.Prelude.{◌≡◌, ◌+◌, ◌-◌, ◌≤◌, ◌<◌, length, get_or, take, drop};
+ghost use Rattle.std.proofs.lemmas.List.Edits.{sets};
+ghost use Rattle.layered_reading.specs.Runs.{RunRoom, RunTo, run_target, Put};
 
 use super::MACHINE;
 
@@ -23,48 +24,14 @@ pub fn put(
     columns[i] = column;
 }
 
-// ---- four at a time: all are read before one is stored, so that the compiler takes them as one
+// ---- four at a time
 
-fn put_ids(ids: &mut [u32], i: usize, from: &[u32], k: usize)
-    requires { (i + 4 ≤ length ids.old) × (k + 4 ≤ length from.now) }
-    ensures { ids.new
-        ≡ set_four ids.old i (get_or from.now k 0) (get_or from.now (k + 1) 0) (get_or from.now (k + 2) 0)
-        (get_or from.now (k + 3) 0) }
+// The four elements of the buffer from place k on, in the places of the list from i on: one store, as their number is fixed.
+fn put_four<T: Copy>(to: &mut [T], i: usize, from: &[T], k: usize)
+    requires { (i + 4 ≤ length to.old) × (k + 4 ≤ length from.now) }
+    ensures { to.new ≡ sets to.old i (take 4 (drop k from.now)) }
 {
-    let a = from[k];
-    let b = from[k + 1];
-    let c = from[k + 2];
-    let d = from[k + 3];
-    ids[i] = a;
-    ids[i + 1] = b;
-    ids[i + 2] = c;
-    ids[i + 3] = d;
-}
-
-fn put_values(values: &mut [i64], i: usize, from: &[i64], k: usize)
-    requires { (i + 4 ≤ length values.old) × (k + 4 ≤ length from.now) }
-    ensures { values.new
-        ≡ set_four values.old i (get_or from.now k (pos 0)) (get_or from.now (k + 1) (pos 0))
-        (get_or from.now (k + 2) (pos 0)) (get_or from.now (k + 3) (pos 0)) }
-{
-    let a = from[k];
-    let b = from[k + 1];
-    let c = from[k + 2];
-    let d = from[k + 3];
-    values[i] = a;
-    values[i + 1] = b;
-    values[i + 2] = c;
-    values[i + 3] = d;
-}
-
-fn put_machine(columns: &mut [u8], i: usize)
-    requires { i + 4 ≤ length columns.old }
-    ensures { columns.new ≡ set_four columns.old i 0 0 0 0 }
-{
-    columns[i] = MACHINE;
-    columns[i + 1] = MACHINE;
-    columns[i + 2] = MACHINE;
-    columns[i + 3] = MACHINE;
+    to[i..i + 4].copy_from_slice(&from[k..k + 4]);
 }
 
 // From place m of the buffer on, as long as four are left and the last of them, which is the greatest, is below the id. Hands back the place after them.
@@ -90,9 +57,9 @@ pub fn fours(
         if id <= machine_ids[k + 3] {
             return k;
         }
-        put_ids(ids, p, machine_ids, k);
-        put_values(values, p, machine_values, k);
-        put_machine(columns, p);
+        put_four(ids, p, machine_ids, k);
+        put_four(values, p, machine_values, k);
+        put_four(columns, p, &[MACHINE; 4], 0);
         k += 4;
         p += 4;
     }

@@ -4,7 +4,7 @@ ghost use Rattle.std.specs.Prelude.{◌≡◌, ◌+◌, ◌*◌, ◌/◌, ◌<�
 ghost use Rattle.format.specs.Limits.{Power, max_count, block_places, dense_count, bitmap_bytes};
 ghost use Rattle.format.specs.Ids.{kind_of, rank_bytes, data_bytes};
 ghost use Rattle.format.specs.IdsRead.{shorts};
-ghost use Rattle.format.specs.Opening.{head_ok, length_ok};
+ghost use Rattle.format.specs.Opening.{head_ok, length_ok, id_part};
 ghost use Rattle.format.specs.LookUp.{halved, in_sparse, dense_at, place_at, steps};
 ghost use Rattle.blocks.specs.Kinds.{kind_is};
 ghost use Rattle.column.specs.Opened.{column_of};
@@ -83,15 +83,23 @@ fn mark_in(s: &[u8], block: Block, p: usize, r: usize) -> Mark
 
 // ---- steps 1 to 6
 
+// The id section of a column that keeps the header rules and fits these bytes.
+pub fn id_section(bytes: &[u8], column: Column) -> &[u8]
+    requires { (head_ok (column_of column).head ≡ true) × (length_ok bytes.now (column_of column) ≡ true) }
+    ensures { result.now ≡ id_part bytes.now (column_of column) }
+{
+    let head = column.head;
+    let start = numbers::size(column.start);
+    let end = start + numbers::size(head.id_bytes);
+    &bytes[start..end]
+}
+
 // Steps 1 to 4 for an id, and so for each id of its block.
 pub fn met_in(bytes: &[u8], column: Column, id: u32) -> Step
     requires { (head_ok (column_of column).head ≡ true) × (length_ok bytes.now (column_of column) ≡ true) }
     ensures { BlockIs bytes.now (column_of column) (id / block_places) result }
 {
-    let head = column.head;
-    let start = numbers::size(column.start);
-    let end = start + numbers::size(head.id_bytes);
-    lookup::block_for(&bytes[start..end], lookup::ask_of(column, id))
+    lookup::block_for(id_section(bytes, column), lookup::ask_of(column, id))
 }
 
 // Where an id of this block stands.
@@ -102,11 +110,14 @@ pub fn find(bytes: &[u8], column: Column, id: u32, met: Step) -> Mark
         × (Listed column.head.count result) }
 {
     let head = column.head;
-    let start = numbers::size(column.start);
-    let end = start + numbers::size(head.id_bytes);
     let power = numbers::size(head.power);
     match met {
-        Step::At(block) => mark_in(&bytes[start..end], block, power, blocks::place_of(id)),
+        Step::At(block) => mark_in(
+            id_section(bytes, column),
+            block,
+            power,
+            blocks::place_of(id),
+        ),
         Step::Absent => Mark::Absent { words: 0 },
         Step::Broken => Mark::Broken,
     }

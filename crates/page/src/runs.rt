@@ -16,7 +16,7 @@ ghost use Rattle.page.specs.Openings.{look_by, Sound};
 ghost use Rattle.page.specs.Placed.{Holds};
 ghost use Rattle.page.specs.Runs.{Run, Climbs, Ready, Reached, ReadyIn, ReachedIn, Way, WayIs};
 
-use super::marks::Mark;
+use super::marks::{Mark, id_section};
 use super::{Held, absent, refused};
 use answers::Refusal;
 use blocks::{Block, Kind};
@@ -151,10 +151,7 @@ pub fn next_entry(bytes: &[u8], column: Column, block: Block, id: u32, from: usi
         × (ReadyIn bytes.now (column_of column) block from (id % block_places)) }
     ensures { ReachedIn bytes.now (column_of column) block result (id % block_places) }
 {
-    let head = column.head;
-    let start = numbers::size(column.start);
-    let end = start + numbers::size(head.id_bytes);
-    entry_from(&bytes[start..end], block, blocks::place_of(id), from)
+    entry_from(id_section(bytes, column), block, blocks::place_of(id), from)
 }
 
 // Place r of a block, which comes to this entry. (No run is in a dense block.)
@@ -184,10 +181,12 @@ fn mark_next(bytes: &[u8], column: Column, block: Block, id: u32, entry: usize) 
     ensures { (marked bytes.now (column_of column) result ≡ steps halved bytes.now (column_of column) id)
         × (Listed column.head.count result) }
 {
-    let head = column.head;
-    let start = numbers::size(column.start);
-    let end = start + numbers::size(head.id_bytes);
-    mark_at(&bytes[start..end], block, blocks::place_of(id), entry)
+    mark_at(
+        id_section(bytes, column),
+        block,
+        blocks::place_of(id),
+        entry,
+    )
 }
 
 // Step 7 for an id of a run. (Beside `page::valued`: what two loops call is compiled into neither. That the edition is 1 makes it shorter.)
@@ -241,15 +240,12 @@ fn worth(bytes: &[u8], column: Column, block: Block, n: usize) -> bool
     let kind = block.kind;
     let count = block.count;
     let at = block.start;
-    let head = column.head;
-    let start = numbers::size(column.start);
-    let end = start + numbers::size(head.id_bytes);
     match kind {
         Kind::Sparse => {
             if n < count / 16 {
                 return false;
             }
-            climb(&bytes[start..end], at, count)
+            climb(id_section(bytes, column), at, count)
         }
         Kind::Dense => false,
         Kind::All => true,

@@ -26,25 +26,25 @@ pub shape_of-columns-then-id-machine_ids : goal.shape_of-columns-then-id-machine
 shape_of-columns-then-id-machine_ids c =
     run_long_columns c.requires c.loop-k.invariant.0
 
-pub put_ids-requires : goal.put_ids-requires
-put_ids-requires c =
+pub put_four-requires : goal.put_four-requires
+put_four-requires c =
     let r = c.requires in
     let v = c.loop-k.invariant in
     let t = c.loop-k-test.true in
     (omega (arith, t, v.1, v.0.from, v.0.upto, r.in_ids, run_long_ids r v.0), omega (arith, t, v.0.upto, r.in_buffer))
 
-pub put_values-requires : goal.put_values-requires
-put_values-requires c =
+pub put_four-requires-in-loop-k : goal.put_four-requires-in-loop-k
+put_four-requires-in-loop-k c =
     let r = c.requires in
     let v = c.loop-k.invariant in
     let t = c.loop-k-test.true in
     (omega (arith, t, v.1, v.0.from, v.0.upto, r.in_values, run_long_values r v.0), omega (arith, t, v.0.upto, r.in_buffer_values))
 
-pub put_machine-requires : goal.put_machine-requires
-put_machine-requires c =
+pub put_four-requires-in-loop-k-2 : goal.put_four-requires-in-loop-k-2
+put_four-requires-in-loop-k-2 c =
     let r = c.requires in
     let v = c.loop-k.invariant in
-    omega (arith, c.loop-k-test.true, v.1, v.0.from, v.0.upto, r.in_columns, run_long_columns r v.0, r.in_buffer, r.in_buffer_values)
+    (omega (arith, c.loop-k-test.true, v.1, v.0.from, v.0.upto, r.in_columns, run_long_columns r v.0, r.in_buffer, r.in_buffer_values), omega arith)
 
 pub overflow_add-k-in-loop-k : goal.overflow_add-k-in-loop-k
 overflow_add-k-in-loop-k c =
@@ -65,7 +65,7 @@ loop-k-preserved c =
     let r = c.requires in
     let v = c.loop-k.invariant in
     let t = c.loop-k-test.true in (
-      run_four r v.0 v.1 (omega (arith, t, v.0.upto)) (omega (arith, c.if-id-machine_ids.false)) c.put_ids.ensures c.put_values.ensures c.put_machine.ensures,
+      run_four r v.0 v.1 (omega (arith, t, v.0.upto)) (omega (arith, c.if-id-machine_ids.false)) c.put_four.ensures c.put_four-in-loop-k.ensures c.put_four-in-loop-k-2.ensures,
       omega (arith, v.1, v.0.from),
     )
 

@@ -1,24 +1,14 @@
 -- `page::runs::mark_next` meets its contract. Assumes nothing.
-use Rattle.format.specs.Kit.{refl, ◌<◌, arith, eqb-true}
+use Rattle.format.specs.Kit.{sym, refl, ◌<◌, arith}
 use Rattle.laws.proofs.Rules.{head_facts}
 use Rattle.column.specs.Opened.{column_of}
-use Rattle.lookup.proofs.Whole.{Parted, id_part_lem}
 use Rattle.page.proofs.Marking.{in_block}
 use Rattle.page.proofs.InTurn.{sparse_fits}
 use Rattle.page.proofs.runs.mark_next.Goals as goal
-use Rattle.page.proofs.runs.mark_next.Goals.{After-size, Start}
+use Rattle.page.proofs.runs.mark_next.Goals.{Start}
 
 small : (s : Start) → s.args.id < 4294967296
 small s = omega arith
-
-parted : (c : After-size) → let a = c.args in
-    Parted a.bytes.now (column_of a.column) c.size-start.result c.size.result
-parted c =
-    record {
-      starts = c.size-start.ensures;
-      ids = c.size.ensures;
-      whole = eqb-true _ _ c.requires.0.1;
-    }
 
 pub mark_at-requires : goal.mark_at-requires
 mark_at-requires c =
@@ -28,11 +18,11 @@ mark_at-requires c =
       w.block.kind,
       w.not_dense,
       omega (arith, w.block.last, h.count),
-      λ e. rw (← id_part_lem (parted (goal.at.mark_at-requires c).After-size), c.place_of.ensures.0) (sparse_fits w.block e, w.climbs e, c.requires.2 e),
+      λ e. rw (c.id_section.ensures, c.place_of.ensures.0) (sparse_fits w.block e, w.climbs e, c.requires.2 e),
     )
 
 pub returns : goal.returns
 returns c =
     let a = c.args in
     in_block a.bytes.now (column_of a.column) a.id (small (goal.at.returns c).Start) a.block c.requires.1.block (column_of a.column).head.power _ _
-    c.mark_at.result refl c.place_of.ensures.0 (id_part_lem (parted (goal.at.returns c).After-size)) (c.mark_at.ensures.0 _, c.mark_at.ensures.1)
+    c.mark_at.result refl c.place_of.ensures.0 (sym c.id_section.ensures) (c.mark_at.ensures.0 _, c.mark_at.ensures.1)
