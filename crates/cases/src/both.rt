@@ -1,11 +1,11 @@
 // The library's writer beside the second writer.
 use lists::{Runs, Values};
-use reference::Refusal;
 
-// Why there is no column: a refusal; the writers disagree; the program has no such room to lend.
+// Why there is no column: a refusal, by its number in the documents and the number with it; the writers disagree; the program has no such room
+// to lend.
 #[derive(Clone, Copy, Debug, PartialEq, Eq)]
 pub enum Failure {
-    Refused(Refusal),
+    Refused { number: u64, with: u64 },
     Unlike,
     Untried,
 }
@@ -13,17 +13,8 @@ pub enum Failure {
 // The column's bytes, or a failure.
 pub type Outcome = Result<usize, Failure>;
 
-// The library's refusal as the second writer tells it, which has no others.
-fn failure_of(why: answers::Refusal) -> Failure {
-    match why {
-        answers::Refusal::Lengths => Failure::Refused(Refusal::Lengths),
-        answers::Refusal::Power => Failure::Refused(Refusal::Power),
-        answers::Refusal::Order(i) => Failure::Refused(Refusal::Order(i as usize)),
-        answers::Refusal::Range(i) => Failure::Refused(Refusal::Range(i as usize)),
-        answers::Refusal::Room(n) => Failure::Refused(Refusal::Room(n as usize)),
-        answers::Refusal::Edition => Failure::Refused(Refusal::Edition),
-        _ => Failure::Unlike,
-    }
+pub fn refused(number: u64, with: u64) -> Failure {
+    Failure::Refused { number, with }
 }
 
 // The second writer, on painted bytes with that much room.
@@ -37,9 +28,13 @@ fn expected(
 ) -> Outcome {
     lists::paint(own);
     let lent = own.get_mut(..room).ok_or(Failure::Untried)?;
-    reference::write(ids, values, u64::from(edition), u64::from(power), lent).map_err(
-        Failure::Refused,
-    )
+    match reference::write(ids, values, u64::from(edition), u64::from(power), lent) {
+        Ok(n) => Ok(n),
+        Err(why) => {
+            let (number, with) = why.numbers();
+            Err(refused(number, with))
+        }
+    }
 }
 
 // The library's.
@@ -53,8 +48,10 @@ fn written(
 ) -> Outcome {
     lists::paint(out);
     let lent = out.get_mut(..room).ok_or(Failure::Untried)?;
-    let n = signalfern::write(ids, values, edition, power, lent).map_err(failure_of)?;
-    Ok(n as usize)
+    match signalfern::write(ids, values, edition, power, lent) {
+        Ok(n) => Ok(n as usize),
+        Err(why) => Err(refused(why.number(), why.number_with())),
+    }
 }
 
 // The outcome on which both writers agree, with at most 300000 bytes of room; they left the same bytes, which start with these.
@@ -80,9 +77,10 @@ pub fn both(
 // With no room, one byte short, just room and some to spare: whether both agree, and answer as they should.
 fn at_rooms(ids: &[u32], values: &[i64], edition: u32, power: u32) -> Option<usize> {
     let short = both(ids, values, edition, power, 0, b"");
-    let Err(Failure::Refused(Refusal::Room(n))) = short else {
+    let Err(Failure::Refused { number: 6, with }) = short else {
         return None;
     };
+    let n = with as usize;
     let less = both(ids, values, edition, power, n.wrapping_sub(1), b"");
     let just = both(ids, values, edition, power, n, b"");
     let more = both(ids, values, edition, power, n.wrapping_add(13), b"");

@@ -5,7 +5,6 @@ ghost use Rattle.std.specs.Prelude.{◌≡◌, ◌≤◌, length};
 use super::say;
 use super::say::Tally;
 use packings::Order;
-use std::io;
 
 // Each index of a width, if the packing has it.
 fn of_width(t: &mut Tally, s: &[u8], order: Order, w: usize)
@@ -30,7 +29,7 @@ fn of_widths(t: &mut Tally, s: &[u8; 136], order: Order) {
 }
 
 // In bytes that differ, and in bytes of ones, where no bit that is left untrimmed goes unseen.
-fn of_packing(rt: &impl Print, t: &mut Tally, order: Order, name: &str) -> io::Result<()> {
+fn of_packing(rt: &impl Print, t: &mut Tally, order: Order, name: &str) {
     let mut more = Tally::default();
     let mut s = [255u8; 136];
     of_widths(&mut more, &s, order);
@@ -39,7 +38,7 @@ fn of_packing(rt: &impl Print, t: &mut Tally, order: Order, name: &str) -> io::R
     say::by_both(rt, t, name, "fetched", more)
 }
 
-pub fn numbers(rt: &impl Print, t: &mut Tally) -> io::Result<()> {
-    of_packing(rt, t, Order::High, "numbers 0 to 16 of widths 0 to 64")?;
+pub fn numbers(rt: &impl Print, t: &mut Tally) {
+    of_packing(rt, t, Order::High, "numbers 0 to 16 of widths 0 to 64");
     of_packing(rt, t, Order::Low, "numbers 0 to 16 of edition 2's widths")
 }

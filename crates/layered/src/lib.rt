@@ -73,6 +73,7 @@ fn answer_from(bytes: &[u8], id: u32) -> Result<Look, Refusal>
 fn top_of(answer: Result<Look, Refusal>) -> Result<LayeredLook, LayerRefusal>
     ensures { (below : Outcome Lu.Look) → Topped result below (on_top (answer_of answer) below) }
 {
+    let layer = Layer::Correction;
     match answer {
         Ok(
             Look::Found {
@@ -81,21 +82,22 @@ fn top_of(answer: Result<Look, Refusal>) -> Result<LayeredLook, LayerRefusal>
                 words,
                 ..
             },
-        ) => Ok(LayeredLook::Found {
-            layer: Layer::Correction,
-            ordinal,
-            value,
-            machine_words: 0,
-            correction_words: words,
-        }),
+        ) => {
+            let machine_words = 0;
+            let correction_words = words;
+            Ok(LayeredLook::Found {
+                layer,
+                ordinal,
+                value,
+                machine_words,
+                correction_words,
+            })
+        }
         Ok(Look::Absent { words, .. }) => Ok(LayeredLook::Absent {
             machine_words: 0,
             correction_words: words,
         }),
-        Err(why) => Err(LayerRefusal {
-            layer: Layer::Correction,
-            why,
-        }),
+        Err(why) => Err(LayerRefusal { layer, why }),
     }
 }
 

@@ -115,7 +115,8 @@ fn walk(s: &[u8], q: Ask) -> Result<Option<Met>, Refusal>
 
 // ---- the answer
 
-// The value of one ordinal (step 7).
+// The value of one ordinal (step 7). (Inlined: three crates call it, one of them for each pair.)
+#[inline(always)]
 pub fn value_at(bytes: &[u8], column: Column, ordinal: u64) -> Option<i64>
     requires { (head_ok (column_of column).head ≡ true) × (length_ok bytes.now (column_of column) ≡ true) × (ordinal < column.head.count) }
     ensures { fetched_of result ≡ value_of bytes.now (column_of column) ordinal }

@@ -22,6 +22,20 @@ pub enum Refusal {
     Edition,
 }
 
+impl Refusal {
+    // Its number in the documents, and the number that goes with it.
+    pub fn numbers(self) -> (u64, u64) {
+        match self {
+            Refusal::Lengths => (1, 0),
+            Refusal::Power => (2, 0),
+            Refusal::Order(i) => (3, i as u64),
+            Refusal::Range(i) => (4, i as u64),
+            Refusal::Room(n) => (6, n as u64),
+            Refusal::Edition => (9, 0),
+        }
+    }
+}
+
 const LAST_ID: u32 = 2147352575;
 
 // The first index whose id is not above the one before.

@@ -190,6 +190,9 @@ fn spread_ok(s: &[u8], order: Order, n: u64, fields: Fields) -> bool
 }
 
 // Whether a value section is the section of its values, and the fields are theirs.
+// (It stands apart: inlined into the check of a whole column, its loop has too few registers, and the check of values that settle late takes a
+// quarter longer in the build for x86-64-v3.)
+#[inline(never)]
 pub fn values_ok(section: &[u8], order: Order, n: u64, fields: Fields) -> bool
     requires { (n ≤ max_count) × ((scaled (packing_of order)).fields_ok n (fields_of fields) (length section.now) ≡ true) }
     ensures { result ≡ values_ok order n (fields_of fields) section.now }

@@ -1,6 +1,6 @@
 -- The first run of ids: where a block's ids end, and the runs from there on. Assumes nothing.
 use Rattle.format.specs.Kit.{◌≡◌, refl, sym, ap, ap₂, ◌∙◌, subst, List, [], ◌∷◌, map, ℕ, zero, suc, ◌+◌, ◌-◌, ◌/◌, ◌%◌, ◌≤◌, ◌<◌, min, arith, eqb}
-use Rattle.format.specs.Kit.{length, get_or, take, drop, drop_of_length-le, length-drop, drop-cons, length-take-le, ne_eqb, Bool, true, false, get_or-take, eqb-true, eq-eqb, zero-le}
+use Rattle.format.specs.Kit.{length, get_or, take, drop, drop_of_length-le, length-drop, drop-cons, length-take-le, ne_eqb, Bool, true, false, get_or-take, take-append-drop, eqb-true, eq-eqb, zero-le}
 use Rattle.std.specs.Prelude.{◌==◌}
 use Rattle.std.specs.List.Sorted.{IsPartitionedBy, IsPartitionPoint}
 use Rattle.std.proofs.lemmas.List.{get_or_default}
@@ -110,6 +110,7 @@ module _ (ids : List ℕ) (b : ℕ) where
       let f : get_or (take j ids) 0 0 ≡ get_or ids 0 0 = get_or-take j ids 0 0 h in
       record {
         some = omega arith;
+        parts = sym (take-append-drop j ids);
         whole = omega (arith, length-drop j ids);
         first =
             run_from (j - 1) 0 j (omega arith) k t q
@@ -122,7 +123,7 @@ module _ (ids : List ℕ) (b : ℕ) where
 abbrev pub in_block : ℕ → ℕ → Bool
 in_block b x = x / 65536 == b
 
-module _ (ids : List ℕ) (b n : ℕ) (t : Asc 0 ids) (some : 0 < length ids) (e : b ≡ get_or ids 0 0 / 65536) (m : n ≡ min (length ids) 65536) where
+module _ (ids : List ℕ) (b : ℕ) (t : Asc 0 ids) (some : 0 < length ids) (e : b ≡ get_or ids 0 0 / 65536) where
   -- ids before one of the block are its own
   in_between : (i j : ℕ) → i ≤ j → j < length ids → get_or ids j 0 / 65536 ≡ b → get_or ids i 0 / 65536 ≡ b
   in_between i j h k q =
@@ -130,12 +131,22 @@ module _ (ids : List ℕ) (b n : ℕ) (t : Asc 0 ids) (some : 0 < length ids) (e
       let y : get_or ids i 0 + (j - i) ≤ get_or ids j 0 = asc_gap 0 ids i j t h k in
       omega arith
 
+  -- the id after as many as a block has places is in another one,
+  pub after_most : (n : ℕ) → n ≡ min (length ids) 65536 → n < length ids → get_or ids n 0 / 65536 ≡ b → ⊥
+  after_most n m h q = let g : get_or ids 0 0 + (n - 0) ≤ get_or ids n 0 = asc_gap 0 ids 0 n t zero-le h in omega arith
+
+  -- and so is the one after an id of another
+  pub after_few : (n : ℕ) → 0 < n → (get_or ids (n - 1) 0 / 65536 ≡ b → ⊥) → n < length ids → get_or ids n 0 / 65536 ≡ b → ⊥
+  after_few n k f h q = f (in_between (n - 1) n (omega arith) h q)
+
+module _ (ids : List ℕ) (b n : ℕ) (t : Asc 0 ids) (some : 0 < length ids) (e : b ≡ get_or ids 0 0 / 65536) (size : n ≤ length ids)
+    (after : n < length ids → get_or ids n 0 / 65536 ≡ b → ⊥) where
   pub parted : IsPartitionedBy (in_block b) (take n ids)
   parted i j d h k q =
       let l : length (take n ids) ≡ n = length-take-le n ids (omega arith) in
       let ti : get_or (take n ids) i d ≡ get_or ids i 0 = get_or-take n ids i d (omega arith) ∙ get_or_default ids i d 0 (omega arith) in
       let tj : get_or (take n ids) j d ≡ get_or ids j 0 = get_or-take n ids j d (omega arith) ∙ get_or_default ids j d 0 (omega arith) in
-      rw ti (eq-eqb _ _ (in_between i j h (omega arith) (eqb-true _ _ (rw tj at q))))
+      rw ti (eq-eqb _ _ (in_between ids b t some e i j h (omega arith) (eqb-true _ _ (rw tj at q))))
 
   -- none of the block stands behind so many
   none_later : (k : ℕ) → k ≤ n → ((i : ℕ) → k ≤ i → i < n → get_or ids i 0 / 65536 ≡ b → ⊥) → NotAt b (runs (drop k ids))
@@ -143,8 +154,14 @@ module _ (ids : List ℕ) (b n : ℕ) (t : Asc 0 ids) (some : 0 < length ids) (e
       below_or k n
       (λ l. not_next ids b k (omega arith) (f k (omega arith) l))
       (λ l. below_or k (length ids)
-      (λ u. not_next ids b k u (λ q. let g : get_or ids 0 0 + (k - 0) ≤ get_or ids k 0 = asc_gap 0 ids 0 k t zero-le u in omega arith))
+      (λ u. not_next ids b k u (λ q. let s : k ≡ n = omega arith in after (omega arith) (subst (λ (j : ℕ). get_or ids j 0 / 65536 ≡ b) s q)))
       (λ u. not_end ids b k u))
+
+  -- the first id is its own
+  begun : 0 < n
+  begun =
+      below_or 0 n (λ u. u)
+      (λ u. let z : 0 ≡ n = omega arith in absurd (after (omega arith) (subst (λ (j : ℕ). get_or ids j 0 / 65536 ≡ b) z (sym e))))
 
   pub first_run : (k : ℕ) → k ≤ n → IsPartitionPoint (λ y. in_block b y ≡ true) (λ y. in_block b y ≡ false) (take n ids) k
       → Begins ids (take k ids) (drop k ids)
@@ -154,7 +171,7 @@ module _ (ids : List ℕ) (b n : ℕ) (t : Asc 0 ids) (some : 0 < length ids) (e
       (λ i g u q. let c : in_block b (get_or (take n ids) i 0) ≡ false = p.1 i 0 g (omega arith) in
       absurd (cc (c, eq-eqb _ _ q, get_or-take n ids i 0 u))) in
       begins ids b k e
-      (below_or 0 k (λ u. u) (λ u. absurd (later 0 u (omega arith) (sym e))))
+      (below_or 0 k (λ u. u) (λ u. absurd (later 0 u begun (sym e))))
       (omega arith)
       (λ i g u. rw (get_or-take n ids i 0 (omega arith)) at (eqb-true _ _ (p.0 i 0 g u)))
       (none_later k h later)

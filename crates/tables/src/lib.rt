@@ -15,7 +15,7 @@ fn chosen(test: bool, x: usize, y: usize) -> usize
 }
 
 // A value's place in a table that ascends: that of the first entry which is not below it. `b` is the value's biased form.
-// Std's `partition_point` decides by an `if`, which LLVM makes the jump that `chosen` avoids, so the halving is written out.
+// (Written out, as it was measured: docs/DECISIONS.md, D122. Std's `partition_point` would ask one entry more.)
 pub fn place(table: &[i64], b: u64) -> usize
     requires { ascends table.now ≡ true }
     ensures { (result ≡ code_in table.now (unbiased b)) × (result ≤ length table.now) }
@@ -95,7 +95,8 @@ fn put_in(table: &mut [i64], n: usize, k: usize, b: u64)
 }
 
 // Puts a value among the first n entries, which ascend, unless it is there. How many there are then; if there is no room for it, one more than
-// the table has.
+// the table has. (Inlined where the number of guesses is known: a call for each value takes the planner 1.7 times the instructions.)
+#[inline(always)]
 fn added(table: &mut [i64], guesses: &mut [u8], n: usize, b: u64) -> usize
     requires { (n ≤ length table.old) × (ascends (take n table.old) ≡ true) × (1 ≤ length guesses.old) × (length guesses.old ≤ 4096) }
     ensures { Holds (length table.old) (insert (unbiased b) (take n table.old)) result table.new }

@@ -8,7 +8,7 @@ pub returns : goal.returns
 returns c =
     let ids = c.args.ids.now in
     let b = c.number_of-b in
-    let n : length (take c.min-n.result ids) ≡ c.min-n.result = length-take-le c.min-n.result ids (omega arith) in
-    let parts = parted ids b.result c.min-n.result c.requires.1 c.requires.0 b.ensures.0 c.min-n.ensures in
+    let n : length (take c.searched-n.result ids) ≡ c.searched-n.result = length-take-le c.searched-n.result ids (omega arith) in
+    let parts = parted ids b.result c.searched-n.result c.requires.1 c.requires.0 b.ensures.0 c.searched-n.ensures.0 c.searched-n.ensures.1 in
     let point = IsPartitionPoint-from_clause (in_block b.result) _ _ c.partition_point.ensures.partitioned parts (λ a r q k. search rules) in
-    (omega arith, first_run ids b.result c.min-n.result c.requires.1 c.requires.0 b.ensures.0 c.min-n.ensures c.partition_point.result (omega arith) point)
+    (omega arith, first_run ids b.result c.searched-n.result c.requires.1 c.requires.0 b.ensures.0 c.searched-n.ensures.0 c.searched-n.ensures.1 c.partition_point.result (omega arith) point)
